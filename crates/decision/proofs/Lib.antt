@@ -1,0 +1,4 @@
+pub mod Scanning
+pub mod Finding
+pub mod Spelling
+pub mod Answers

@@ -1,0 +1,120 @@
+-- `decision::by_group` meets its contract. The octets behind the length byte are the group's name (`group_at`), and the row found for that group is
+-- the one to choose (`find_access`): none is noAccessEntry, and of one `by_access` answers (`Answers`). Assumes nothing.
+use mathlib.Core.Path.{_∙_}
+use mathlib.Core.List.{[], map}
+use mathlib.Core.Option.{Option}
+use native.Mathlib.Omega.{arith}
+use borrow.Author.Needs.{needs}
+use Rattle.rows.specs.declared.Table.the-variants.{Access}
+use Rattle.rows.specs.Rows.{AccessRow, mappingOf, accessOf}
+use Rattle.image.specs.Layout.{rowsIn}
+use Rattle.procedure.specs.Decision.{chosenAccess}
+use Rattle.procedure.specs.Bytes.{identifier}
+use Rattle.procedure.proofs.Layouts.{name-part}
+use Rattle.decision.specs.Found.{Chosen}
+use Rattle.decision.proofs.Answers.{RowAt, row-at, row-none, access-none, access-some}
+use Rattle.decision.proofs.by_group.Statement.{statement}
+use Rattle.decision.proofs.by_group.Tie as tie
+
+-- the access row to choose for the group
+abbrev choice : tie.Start → Option AccessRow
+choice s =
+    let a = s .args in
+    chosenAccess (mappingOf (a .row .now) .groupName) (a .model) (a .level) (a .context .now) (map accessOf (rowsIn (a .w .now) (a .l .accesses)))
+
+-- where the call of `find_access` stands
+abbrev start : tie.After-find-access → tie.Start
+start f = f .before .before .before .before .before .before .before .before .before .before
+
+chosen : (f : tie.After-find-access) → Chosen Access accessOf (start f .args .w .now) (f .find-access .result) (choice (start f))
+chosen f =
+    let u = f .before .before .before in
+    let v = u .before .before in
+    rw (name-part (start f .args .row .now) (v .group-at .result) (u .wide .result) (u .wide .ensures .0) ∙ v .group-at .ensures .1) at (f .find-access .ensures)
+
+row : (c : tie.After-known-told) → let s = start (c .before .before .before) in let g = c .before .found .given .0 in
+    RowAt Access accessOf (s .args .w .now) (g .0) (g .1 .0) (choice s)
+row c = row-at (chosen (c .before .before .before)) (c .before .found .given .1)
+
+group-at-requires : tie.Need-group-at-requires
+group-at-requires c κs = search needs
+
+add-from : tie.Need-add-from
+add-from c = search needs
+
+shared-slice-read-wide : tie.Need-shared-slice-read-wide
+shared-slice-read-wide c = search needs
+
+wide-requires : tie.Need-wide-requires
+wide-requires c κs = search needs
+
+add-end : tie.Need-add-end
+add-end c = search needs
+
+sub-find-access : tie.Need-sub-find-access
+sub-find-access c = search needs
+
+part-find-access-start : tie.Need-part-find-access-start
+part-find-access-start c = search needs
+
+part-find-access-end : tie.Need-part-find-access-end
+part-find-access-end c = search needs
+
+find-access-requires : tie.Need-find-access-requires
+find-access-requires c κs = search needs
+
+enum-known-found : tie.Need-enum-known-found
+enum-known-found c = search needs
+
+enum-told : tie.Need-enum-told
+enum-told c = search needs
+
+returns : tie.Need-returns
+returns c =
+    let f = c .before .before in
+    let a = start f .args in
+    access-none (a .w .now) (a .l) (a .model) [] (a .level) (a .view-type) (a .context .now) (identifier (a .variable .now)) (mappingOf (a .row .now))
+    (row-none (chosen f) (c .enum-told .given .1))
+
+sub-by-access : tie.Need-sub-by-access
+sub-by-access c = omega (arith, row (c .before) .starts)
+
+part-by-access-start : tie.Need-part-by-access-start
+part-by-access-start c = row (c .before) .starts
+
+part-by-access-end : tie.Need-part-by-access-end
+part-by-access-end c = row (c .before) .ends
+
+by-access-requires : tie.Need-by-access-requires
+by-access-requires c κs =
+    let k = c .before .before in
+    (start (k .before .before .before) .pre .0 .views-sound, row k .whole)
+
+returns-2 : tie.Need-returns-2
+returns-2 c =
+    let k = c .before .before .before in
+    let a = start (k .before .before .before) .args in
+    c .by-access .ensures
+    ∙ access-some (a .w .now) (a .l) (a .model) [] (a .level) (a .view-type) (a .context .now) (identifier (a .variable .now)) (mappingOf (a .row .now)) (row k .is)
+
+pub by-group-spec : {M : Type 1} → statement M
+by-group-spec =
+    tie.close
+    (tie.spec
+    group-at-requires
+    add-from
+    shared-slice-read-wide
+    wide-requires
+    add-end
+    sub-find-access
+    part-find-access-start
+    part-find-access-end
+    find-access-requires
+    enum-known-found
+    enum-told
+    returns
+    sub-by-access
+    part-by-access-start
+    part-by-access-end
+    by-access-requires
+    returns-2)

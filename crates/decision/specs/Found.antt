@@ -1,0 +1,37 @@
+-- A row found where it lies in the bytes of an image. Assumes nothing.
+use mathlib.Core.Path.{_≡_}
+use mathlib.Core.Bool.{Bool, true}
+use mathlib.Core.List.{List}
+use mathlib.Core.Option.{Option, none, some, Option·map}
+use Prim.Native.Nat.{ℕ, _-_, _≤_}
+use lib.ListN.{length, take, drop}
+use Rattle.lists.specs.Lists.{OnSome}
+use Rattle.rows.specs.declared.Table.{Table}
+use Rattle.procedure.specs.Bytes.{Whole}
+use Rattle.procedure.specs.declared.Sighting.{Sighting}
+use Rattle.procedure.specs.declared.Sighting.the-variants.{Elsewhere, Unmatched, Matched}
+use Rattle.decision.specs.declared.Viewed.{Viewed}
+use Rattle.decision.specs.declared.Found.{Found}
+use Rattle.decision.specs.declared.Found.the-variants.{Row, Nothing}
+
+-- the bytes of the row found
+abbrev pub bytesAt : List ℕ → Found → Option (List ℕ)
+bytesAt w (Row at end) = some (take (end - at) (drop at w))
+bytesAt w Nothing = none
+
+-- it lies within w
+abbrev pub FoundIn : List ℕ → Found → Type 0
+FoundIn w (Row at end) = (at ≤ end) × (end ≤ length w)
+FoundIn w Nothing = Unit {0}
+
+-- a row of table t, read by `of`, that was chosen, or that none was: nothing is wrong with its bytes
+pub record Chosen {R : Type 0} (t : Table) (of : List ℕ → R) (w : List ℕ) (found : Found) (choice : Option R) : Type 0 where
+  pub lies : FoundIn w found
+  pub whole : OnSome (Whole t) (bytesAt w found)
+  pub is : Option·map of (bytesAt w found) ≡ choice
+
+-- what is known of a view after one row more
+unfoldable pub carried : Viewed → Sighting → ℕ → ℕ → Viewed
+carried v Elsewhere at end = v
+carried v Unmatched at end = record { any = true; row = v .row }
+carried v Matched at end = record { any = true; row = Row at end }

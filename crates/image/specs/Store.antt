@@ -1,0 +1,37 @@
+-- A store: room for the largest image, with an image at its front; what lies behind the image is unused room (document 01, "sound").
+-- Assumes nothing.
+use mathlib.Core.Bool.{Bool, true, false, cond, _&&_}
+use mathlib.Core.List.{List}
+use mathlib.Core.Option.{Option, none, some}
+use Prim.Native.Nat.{ℕ, _+_}
+use lib.Dec.{eqb, leb}
+use lib.ListN.{length}
+use Rattle.answers.specs.declared.Fault.{Fault}
+use Rattle.answers.specs.declared.Fault.the-variants.{NotSound}
+use Rattle.rows.specs.Tables.{Tables}
+use Rattle.image.specs.Layout.{count, called, withinLimits, laidOut}
+use Rattle.image.specs.Image.{rowsFault, tablesIn}
+
+-- the largest image: 46,456 bytes
+abbrev pub room : ℕ
+room = 46456
+
+abbrev pub isNone : Option Fault → Bool
+isNone none = true
+isNone (some f) = false
+
+-- each count within its limit, the rows within the room, each held field legal, each table ascending
+unfoldable pub soundRows : List ℕ → ℕ → ℕ → ℕ → ℕ → Bool
+soundRows w c m a v =
+    withinLimits c m a v && (leb (called (c + m + a + v) w) (length w) && isNone (rowsFault w (laidOut w c m a v)))
+
+unfoldable pub isSound : List ℕ → Bool
+isSound w = eqb (length w) room && soundRows w (count 0 w) (count 1 w) (count 2 w) (count 3 w)
+
+-- what every call but image reading answers first
+unfoldable pub storeFault : List ℕ → Option Fault
+storeFault w = cond (isSound w) none (some NotSound)
+
+-- the tables that a sound store holds
+unfoldable pub held : List ℕ → Option Tables
+held w = cond (isSound w) (some (tablesIn w)) none

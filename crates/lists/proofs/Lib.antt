@@ -1,0 +1,6 @@
+pub mod Bools
+pub mod Orders
+pub mod Keeps
+pub mod Tops
+pub mod Scans
+pub mod Greatest

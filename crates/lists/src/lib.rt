@@ -1,0 +1,1 @@
+// Lists by tests that compute: the definitions are in specs/, their laws in proofs/. There is no code.

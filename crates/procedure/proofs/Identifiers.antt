@@ -1,0 +1,113 @@
+-- Laws of `identifier`, the numbers that bytes say four by four, and of `agrees`, which compares two identifiers number by number.
+-- Bytes behind those counted make no difference; the first four bytes say the first number, and the rest the others.
+-- A subtree agrees with no variable that is shorter, and otherwise as its first number does and the rest do. Assumes nothing.
+use mathlib.Core.Path.{_≡_, refl, sym, ap, ap₂, _∙_}
+use mathlib.Core.Bool.{true, false, not, _&&_, _||_}
+use mathlib.Core.List.{List, [], _∷_, _++_}
+use Prim.Native.Nat.{ℕ, zero, suc, _+_, _*_, _/_, _≤_, _<_}
+use native.Mathlib.Numerals.{add-one}
+use native.Mathlib.Omega.{arith}
+use lib.Dec.{eqb}
+use lib.ListN.{length, take, drop, getD, length-drop, take-append-drop}
+use lib.Seq.{length-take-le, drop-drop}
+use borrow.Author.Tests.{eqb-true, eq-eqb}
+use Rattle.lists.proofs.Bools.{test-ext, and-left, and-right, and-both, and-false-right, or-right}
+use Rattle.rows.specs.Fields.{word, number, numbers}
+use Rattle.rows.proofs.Steps.{word-front}
+use Rattle.rows.proofs.Inverse.{length-numbers}
+use Rattle.procedure.specs.Decision.{maskBit, agrees}
+use Rattle.procedure.specs.Bytes.{identifier}
+
+-- ---- numbers of four bytes
+
+-- four octets are the same exactly where the numbers are
+abbrev four : ℕ → ℕ → ℕ → ℕ → ℕ
+four a b c d = number word (a ∷ b ∷ c ∷ d ∷ [])
+
+words-eqb : (a b c d p q r s : ℕ) → a < 256 → b < 256 → c < 256 → d < 256 → p < 256 → q < 256 → r < 256 → s < 256
+    → eqb a p && eqb b q && eqb c r && eqb d s ≡ eqb (four a b c d) (four p q r s)
+words-eqb a b c d p q r s ha hb hc hd hp hq hr hs = test-ext _ _ octets words
+  where
+    octets : eqb a p && eqb b q && eqb c r && eqb d s ≡ true → eqb (four a b c d) (four p q r s) ≡ true
+    octets e =
+        let all : (eqb a p ≡ true) × (eqb b q ≡ true) × (eqb c r ≡ true) × (eqb d s ≡ true) = search (and-left, and-right) in
+        eq-eqb (four a b c d) (four p q r s)
+        (omega (arith, eqb-true a p (all .0), eqb-true b q (all .1), eqb-true c r (all .2), eqb-true d s (all .3)))
+
+    words : eqb (four a b c d) (four p q r s) ≡ true → eqb a p && eqb b q && eqb c r && eqb d s ≡ true
+    words e =
+        let n : four a b c d ≡ four p q r s = eqb-true _ _ e in
+        and-both (and-both (and-both (eq-eqb a p (omega arith)) (eq-eqb b q (omega arith))) (eq-eqb c r (omega arith))) (eq-eqb d s (omega arith))
+
+pub word-same : (a b : List ℕ) (i : ℕ) → ((k : ℕ) → getD a k 0 < 256) → ((k : ℕ) → getD b k 0 < 256)
+    → eqb (getD a i 0) (getD b i 0) && eqb (getD a (i + 1) 0) (getD b (i + 1) 0) && eqb (getD a (i + 2) 0) (getD b (i + 2) 0) && eqb (getD a (i + 3) 0) (getD b (i + 3) 0)
+    ≡ eqb (number word (drop i a)) (number word (drop i b))
+word-same a b i ha hb =
+    words-eqb _ _ _ _ _ _ _ _ (ha i) (ha (i + 1)) (ha (i + 2)) (ha (i + 3)) (hb i) (hb (i + 1)) (hb (i + 2)) (hb (i + 3))
+    ∙ sym (ap₂ eqb (word-front a i) (word-front b i))
+
+numbers-front : (n : ℕ) (a b : List ℕ) → n * 4 ≤ length a → numbers word n (a ++ b) ≡ numbers word n a
+numbers-front zero a b h = refl
+numbers-front (suc n) [] b h = absurd (omega arith)
+numbers-front (suc n) (x ∷ []) b h = absurd (omega arith)
+numbers-front (suc n) (x ∷ y ∷ []) b h = absurd (omega arith)
+numbers-front (suc n) (x ∷ y ∷ z ∷ []) b h = absurd (omega arith)
+numbers-front (suc n) (x ∷ y ∷ z ∷ w ∷ a) b h = ap (λ u. number word (x ∷ y ∷ z ∷ w ∷ []) ∷ u) (numbers-front n a b (omega arith))
+
+-- the identifier that the first 4 * n bytes hold
+pub identifier-take : (n : ℕ) (v : List ℕ) → 4 * n ≤ length v → identifier (take (4 * n) v) ≡ numbers word n v
+unfolding identifier
+identifier-take n v h =
+    let l : length (take (4 * n) v) ≡ 4 * n = length-take-le (4 * n) v h in
+    let e : length (take (4 * n) v) / 4 ≡ n = omega arith in
+    ap (λ m. numbers word m (take (4 * n) v)) e
+    ∙ sym (numbers-front n (take (4 * n) v) (drop (4 * n) v) (omega arith))
+    ∙ ap (numbers word n) (take-append-drop (4 * n) v)
+
+pub length-identifier : (v : List ℕ) → length (identifier v) ≡ length v / 4
+unfolding identifier
+length-identifier v = length-numbers word (length v / 4) v
+
+pub identifier-none : (v : List ℕ) → length v < 4 → identifier v ≡ []
+unfolding identifier
+identifier-none v h = let e : length v / 4 ≡ 0 = omega arith in rw e
+
+-- the number at k and those after it
+pub identifier-next : (k : ℕ) (v : List ℕ) → k + 4 ≤ length v → identifier (drop k v) ≡ number word (drop k v) ∷ identifier (drop (k + 4) v)
+unfolding identifier
+identifier-next k v h =
+    let e : length (drop k v) / 4 ≡ suc (length (drop (k + 4) v) / 4) = omega (arith, length-drop k v, length-drop (k + 4) v) in
+    ap (λ m. numbers word m (drop k v)) e
+    ∙ ap (λ u. number word (drop k v) ∷ numbers word (length (drop (k + 4) v) / 4) u) (drop-drop 4 k v)
+
+-- ---- agrees
+
+-- a variable that is shorter
+pub agrees-short : (mask : List ℕ) (i : ℕ) (ts xs : List ℕ) → length xs < length ts → agrees mask i ts xs ≡ false
+unfolding agrees
+agrees-short mask i [] xs h = absurd (omega arith)
+agrees-short mask i (t ∷ ts) [] h = refl
+agrees-short mask i (t ∷ ts) (x ∷ xs) h =
+    and-false-right (not (maskBit mask i) || eqb t x) (agrees-short mask (suc i) ts xs (omega arith))
+
+-- the numbers at k, which are bit i's
+module _ (mask s v : List ℕ) (i k : ℕ) where
+  pub agrees-end : length s ≤ k → agrees mask i (identifier (drop k s)) (identifier (drop k v)) ≡ true
+  unfolding agrees
+  agrees-end h = rw (identifier-none (drop k s) (omega (arith, length-drop k s)))
+
+  module _ (hs : k + 4 ≤ length s) (hv : k + 4 ≤ length v) where
+    pub agrees-same : eqb (number word (drop k s)) (number word (drop k v)) ≡ true
+        → agrees mask i (identifier (drop k s)) (identifier (drop k v)) ≡ agrees mask (i + 1) (identifier (drop (k + 4) s)) (identifier (drop (k + 4) v))
+    unfolding agrees
+    agrees-same e = rw (identifier-next k s hs, identifier-next k v hv, or-right (not (maskBit mask i)) e, add-one)
+
+    pub agrees-masked : maskBit mask i ≡ false
+        → agrees mask i (identifier (drop k s)) (identifier (drop k v)) ≡ agrees mask (i + 1) (identifier (drop (k + 4) s)) (identifier (drop (k + 4) v))
+    unfolding agrees
+    agrees-masked b = rw (identifier-next k s hs, identifier-next k v hv, b, add-one)
+
+    pub agrees-differ : eqb (number word (drop k s)) (number word (drop k v)) ≡ false → maskBit mask i ≡ true
+        → agrees mask i (identifier (drop k s)) (identifier (drop k v)) ≡ false
+    unfolding agrees
+    agrees-differ e b = rw (identifier-next k s hs, identifier-next k v hv, e, b)

@@ -1,0 +1,5 @@
+pub mod Layouts
+pub mod Identifiers
+pub mod Masks
+pub mod Steps
+pub mod Choices

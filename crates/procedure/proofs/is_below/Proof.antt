@@ -1,0 +1,84 @@
+-- `procedure::is_below` meets its contract. The loop's invariant speaks of what is left: `k` is 4 * `i`, and the subtree agrees with the variable
+-- as what is left of the two from `k` on does from bit `i` on. A turn passes one number; at the end nothing is left of the subtree.
+-- The measure is what is left of its length. Assumes nothing.
+use mathlib.Core.Path.{_≡_, refl, sym, _∙_}
+use mathlib.Core.Logic.{⊎-elim}
+use Prim.Native.Nat.{_-_, _*_}
+use native.Mathlib.Omega.{arith}
+use lib.ListN.{drop}
+use borrow.Author.Needs.{needs}
+use borrow.Author.Tests.{not-true, not-false}
+use Rattle.procedure.specs.Decision.{agrees}
+use Rattle.procedure.specs.Bytes.{identifier}
+use Rattle.procedure.proofs.Identifiers.{length-identifier, agrees-short, agrees-end, agrees-same, agrees-masked, agrees-differ}
+use Rattle.procedure.proofs.is_below.Statement.{statement}
+use Rattle.procedure.proofs.is_below.Tie as tie
+
+abbrev Inv-loop : tie.InvT-loop
+Inv-loop subtree mask variable n i₀ k₀ i k =
+    (k ≡ 4 * i) × (agrees mask 0 (identifier subtree) (identifier variable) ≡ agrees mask i (identifier (drop k subtree)) (identifier (drop k variable)))
+
+abbrev μ-loop : tie.MeasureT-loop
+μ-loop subtree mask variable n i₀ k₀ i k = n - k
+
+returns : tie.Need-returns Inv-loop μ-loop
+returns c =
+    let s = c .before .before .before .before in
+    sym (agrees-short _ 0 _ _ (omega (arith, length-identifier (s .args .subtree .now), length-identifier (s .args .variable .now))))
+
+loop-holds : tie.Need-loop-holds Inv-loop μ-loop
+loop-holds c = (refl, refl)
+
+same-word-requires : tie.Need-same-word-requires Inv-loop μ-loop
+same-word-requires c κs = search needs
+
+mask-bit-requires : tie.Need-mask-bit-requires Inv-loop μ-loop
+mask-bit-requires c κs = search needs
+
+returns-2 : tie.Need-returns-2 Inv-loop μ-loop
+returns-2 c =
+    let t = c .before .before .before in
+    let l = t .before .before .loop in
+    let d = sym (t .same-word .ensures) ∙ not-true _ (c .before .before .if2 .taken) in
+    sym (l .inv .1 ∙ agrees-differ _ _ _ (l .i) (l .k) (omega arith) (omega arith) d (sym (c .before .mask-bit .ensures) ∙ c .if3 .taken))
+
+add-i : tie.Need-add-i Inv-loop μ-loop
+add-i c = search needs
+
+add-k : tie.Need-add-k Inv-loop μ-loop
+add-k c = search needs
+
+loop-less : tie.Need-loop-less Inv-loop μ-loop
+loop-less c = search needs
+
+loop-again : tie.Need-loop-again Inv-loop μ-loop
+loop-again c =
+    let l = c .before .before .before .loop in (
+      omega arith,
+      l .inv .1 ∙ ⊎-elim
+          (λ w. agrees-masked _ _ _ (l .i) (l .k) (omega arith) (omega arith) (sym (w .1 .ensures) ∙ w .2 .left))
+          (λ w. agrees-same _ _ _ (l .i) (l .k) (omega arith) (omega arith) (sym (c .before .same-word .ensures) ∙ not-false _ (w .left)))
+          (c .if2 .came),
+    )
+
+returns-3 : tie.Need-returns-3 Inv-loop μ-loop
+returns-3 c =
+    let l = c .before .loop in
+    sym (l .inv .1 ∙ agrees-end _ _ _ (l .i) (l .k) (omega arith))
+
+pub is-below-spec : {M : Type 1} → statement M
+is-below-spec =
+    tie.close
+    (tie.spec
+    Inv-loop
+    μ-loop
+    returns
+    loop-holds
+    same-word-requires
+    mask-bit-requires
+    returns-2
+    add-i
+    add-k
+    loop-less
+    loop-again
+    returns-3)

@@ -1,0 +1,40 @@
+-- One row's bytes and a request: how the code sees the steps. Assumes nothing.
+use mathlib.Core.Path.{_≡_}
+use mathlib.Core.Bool.{Bool, true, false, cond}
+use mathlib.Core.List.{List}
+use mathlib.Core.Option.{none}
+use Prim.Native.Nat.{ℕ, _+_, _*_, _/_, _≤_}
+use lib.Dec.{eqb}
+use lib.ListN.{length, take, drop, getD}
+use Rattle.rows.specs.declared.Table.{Table}
+use Rattle.rows.specs.Fields.{word, numbers, faults}
+use Rattle.rows.specs.Rows.{rowFields, AccessRow, ViewRow}
+use Rattle.procedure.specs.declared.Sighting.{Sighting}
+use Rattle.procedure.specs.declared.Sighting.the-variants.{Elsewhere, Unmatched, Matched}
+use Rattle.procedure.specs.Decision.{candidate, inView, matches}
+
+-- nothing is wrong with the row's bytes
+abbrev pub Whole : Table → List ℕ → Type 0
+Whole t row = faults (rowFields t) row ≡ none
+
+-- a name, that is a length byte and octets, lies at `at` within the row; its octets
+abbrev pub NameIn : List ℕ → ℕ → Type 0
+NameIn row at = at + 1 + getD row at 0 ≤ length row
+
+abbrev pub nameAt : List ℕ → ℕ → List ℕ
+nameAt row at = take (getD row at 0) (drop (at + 1) row)
+
+-- an identifier in parts of 4 bytes, big-endian; a torn last part does not count
+unfoldable pub identifier : List ℕ → List ℕ
+identifier v = numbers word (length v / 4) v
+
+-- an access row's rank among the candidates, 0 where it is none: its own model before any, the longer prefix, the higher level
+unfoldable pub rankOf : List ℕ → ℕ → ℕ → List ℕ → AccessRow → ℕ
+rankOf group model level context a =
+    cond (candidate group model level context a)
+    (cond (eqb (a .securityModel) 0) 0 256 + (length (a .contextPrefix) * 4 + a .securityLevel))
+    0
+
+-- how a view row stands to a view's name and a variable
+unfoldable pub sighting : List ℕ → List ℕ → ViewRow → Sighting
+sighting name variable r = cond (inView name r) (cond (matches variable r) Matched Unmatched) Elsewhere

@@ -1,0 +1,2 @@
+pub mod Ridge
+pub mod Examples

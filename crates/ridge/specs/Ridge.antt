@@ -1,0 +1,128 @@
+-- Document 01's Ridge tables, as rows and as the bytes of their image. Row B's write and notify views are empty, and every storage is 3.
+-- Assumes nothing.
+use mathlib.Core.Path.{_≡_, refl}
+use mathlib.Core.List.{List, [], _∷_, map}
+use mathlib.Core.Option.{none}
+use Prim.Native.Nat.{ℕ}
+use Rattle.rows.specs.Fields.{sequenceFault, integerFault, faults, span}
+use Rattle.rows.specs.Rows.{ContextRow, MappingRow, AccessRow, ViewRow, keyFields, rowFields}
+use Rattle.rows.specs.Tables.{Tables}
+use Rattle.lists.specs.Order.{same, before}
+use Rattle.image.specs.Layout.{laidOut, layoutOf}
+use Rattle.image.specs.Image.{imageFault, sizedFault, rowsFault, tableFault, tablesAt, tablesIn}
+
+-- ---- names
+
+abbrev pub ann : List ℕ
+ann = 97 ∷ 110 ∷ 110 ∷ []
+
+abbrev pub bob : List ℕ
+bob = 98 ∷ 111 ∷ 98 ∷ []
+
+abbrev pub cal : List ℕ
+cal = 99 ∷ 97 ∷ 108 ∷ []
+
+abbrev pub leads : List ℕ
+leads = 108 ∷ 101 ∷ 97 ∷ 100 ∷ 115 ∷ []
+
+abbrev pub train : List ℕ
+train = 116 ∷ 114 ∷ 97 ∷ 105 ∷ 110 ∷ []
+
+abbrev pub ridge : List ℕ
+ridge = 114 ∷ 105 ∷ 100 ∷ 103 ∷ 101 ∷ []
+
+abbrev pub ridge1 : List ℕ
+ridge1 = 114 ∷ 105 ∷ 100 ∷ 103 ∷ 101 ∷ 49 ∷ []
+
+abbrev pub all : List ℕ
+all = 97 ∷ 108 ∷ 108 ∷ []
+
+abbrev pub base : List ℕ
+base = 98 ∷ 97 ∷ 115 ∷ 101 ∷ []
+
+abbrev pub gone : List ℕ
+gone = 103 ∷ 111 ∷ 110 ∷ 101 ∷ []
+
+-- ---- rows
+
+abbrev rowA : AccessRow
+rowA = record {
+  groupName = leads;
+  contextPrefix = [];
+  securityModel = 0;
+  securityLevel = 1;
+  contextMatch = 2;
+  readViewName = all;
+  writeViewName = [];
+  notifyViewName = gone;
+  storageType = 3;
+  status = 1;
+}
+
+abbrev rowB : AccessRow
+rowB = record {
+  groupName = leads;
+  contextPrefix = ridge;
+  securityModel = 3;
+  securityLevel = 2;
+  contextMatch = 2;
+  readViewName = base;
+  writeViewName = [];
+  notifyViewName = [];
+  storageType = 3;
+  status = 1;
+}
+
+abbrev pub ridgeTables : Tables
+ridgeTables = record {
+  vacmContextTable = record { contextName = [] } ∷ record { contextName = ridge1 } ∷ [];
+  vacmSecurityToGroupTable =
+      record { securityModel = 3; securityName = ann; groupName = leads; storageType = 3; status = 1 }
+      ∷ record { securityModel = 3; securityName = cal; groupName = train; storageType = 3; status = 1 }
+      ∷ [];
+  vacmAccessTable = rowA ∷ rowB ∷ [];
+  vacmViewTreeFamilyTable =
+      record { viewName = all; subtree = 1 ∷ 3 ∷ 6 ∷ 1 ∷ []; mask = []; familyType = 1; storageType = 3; status = 1 }
+      ∷ record {
+        viewName = base;
+        subtree = 1 ∷ 3 ∷ 6 ∷ 1 ∷ 2 ∷ 1 ∷ 2 ∷ 2 ∷ 1 ∷ 0 ∷ 2 ∷ [];
+        mask = 255 ∷ 160 ∷ [];
+        familyType = 1;
+        storageType = 3;
+        status = 1;
+      }
+      ∷ record {
+        viewName = base;
+        subtree = 1 ∷ 3 ∷ 6 ∷ 1 ∷ 2 ∷ 1 ∷ 2 ∷ 2 ∷ 1 ∷ 7 ∷ 0 ∷ [];
+        mask = 255 ∷ 192 ∷ [];
+        familyType = 2;
+        storageType = 3;
+        status = 1;
+      }
+      ∷ [];
+}
+
+-- ---- bytes: the image that ships with this program
+
+abbrev pub ridgeImage : List ℕ
+ridgeImage =
+    0 ∷ 2 ∷ 0 ∷ 2 ∷ 0 ∷ 2 ∷ 0 ∷ 3 ∷ 0 ∷ 1 ∷ 0 ∷ 7 ∷ 0 ∷ 16 ∷ 0 ∷ 16 ∷ 0 ∷ 25 ∷ 0 ∷ 27 ∷ 0 ∷ 25 ∷ 0 ∷ 56 ∷ 0
+    ∷ 56 ∷ 0 ∷ 6 ∷ 114 ∷ 105 ∷ 100 ∷ 103 ∷ 101 ∷ 49 ∷ 0 ∷ 0 ∷ 0 ∷ 3 ∷ 3 ∷ 97 ∷ 110 ∷ 110 ∷ 5 ∷ 108 ∷ 101 ∷ 97
+    ∷ 100 ∷ 115 ∷ 3 ∷ 1 ∷ 0 ∷ 0 ∷ 0 ∷ 3 ∷ 3 ∷ 99 ∷ 97 ∷ 108 ∷ 5 ∷ 116 ∷ 114 ∷ 97 ∷ 105 ∷ 110 ∷ 3 ∷ 1 ∷ 5
+    ∷ 108 ∷ 101 ∷ 97 ∷ 100 ∷ 115 ∷ 0 ∷ 0 ∷ 0 ∷ 0 ∷ 0 ∷ 1 ∷ 2 ∷ 3 ∷ 97 ∷ 108 ∷ 108 ∷ 0 ∷ 4 ∷ 103 ∷ 111 ∷ 110
+    ∷ 101 ∷ 3 ∷ 1 ∷ 5 ∷ 108 ∷ 101 ∷ 97 ∷ 100 ∷ 115 ∷ 5 ∷ 114 ∷ 105 ∷ 100 ∷ 103 ∷ 101 ∷ 0 ∷ 0 ∷ 0 ∷ 3 ∷ 2 ∷ 2
+    ∷ 4 ∷ 98 ∷ 97 ∷ 115 ∷ 101 ∷ 0 ∷ 0 ∷ 3 ∷ 1 ∷ 3 ∷ 97 ∷ 108 ∷ 108 ∷ 4 ∷ 0 ∷ 0 ∷ 0 ∷ 1 ∷ 0 ∷ 0 ∷ 0 ∷ 3 ∷ 0
+    ∷ 0 ∷ 0 ∷ 6 ∷ 0 ∷ 0 ∷ 0 ∷ 1 ∷ 0 ∷ 1 ∷ 3 ∷ 1 ∷ 4 ∷ 98 ∷ 97 ∷ 115 ∷ 101 ∷ 11 ∷ 0 ∷ 0 ∷ 0 ∷ 1 ∷ 0 ∷ 0 ∷ 0
+    ∷ 3 ∷ 0 ∷ 0 ∷ 0 ∷ 6 ∷ 0 ∷ 0 ∷ 0 ∷ 1 ∷ 0 ∷ 0 ∷ 0 ∷ 2 ∷ 0 ∷ 0 ∷ 0 ∷ 1 ∷ 0 ∷ 0 ∷ 0 ∷ 2 ∷ 0 ∷ 0 ∷ 0 ∷ 2 ∷ 0
+    ∷ 0 ∷ 0 ∷ 1 ∷ 0 ∷ 0 ∷ 0 ∷ 0 ∷ 0 ∷ 0 ∷ 0 ∷ 2 ∷ 2 ∷ 255 ∷ 160 ∷ 1 ∷ 3 ∷ 1 ∷ 4 ∷ 98 ∷ 97 ∷ 115 ∷ 101 ∷ 11
+    ∷ 0 ∷ 0 ∷ 0 ∷ 1 ∷ 0 ∷ 0 ∷ 0 ∷ 3 ∷ 0 ∷ 0 ∷ 0 ∷ 6 ∷ 0 ∷ 0 ∷ 0 ∷ 1 ∷ 0 ∷ 0 ∷ 0 ∷ 2 ∷ 0 ∷ 0 ∷ 0 ∷ 1 ∷ 0 ∷ 0
+    ∷ 0 ∷ 2 ∷ 0 ∷ 0 ∷ 0 ∷ 2 ∷ 0 ∷ 0 ∷ 0 ∷ 1 ∷ 0 ∷ 0 ∷ 0 ∷ 7 ∷ 0 ∷ 0 ∷ 0 ∷ 0 ∷ 2 ∷ 255 ∷ 192 ∷ 2 ∷ 3 ∷ 1 ∷ []
+
+-- nothing is wrong with it, and it holds those tables
+pub ridge-sound : imageFault ridgeImage ≡ none
+unfolding imageFault sizedFault rowsFault tableFault faults sequenceFault integerFault laidOut layoutOf keyFields rowFields before same
+ridge-sound = refl
+
+pub ridge-holds : tablesIn ridgeImage ≡ ridgeTables
+unfolding tablesAt laidOut layoutOf rowFields
+ridge-holds = refl

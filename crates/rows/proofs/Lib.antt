@@ -1,0 +1,9 @@
+pub mod Steps
+pub mod Sound
+pub mod Appends
+pub mod Judging
+pub mod Places
+pub mod Inverse
+pub mod Typed
+pub mod Ordering
+pub mod Bounds

@@ -1,0 +1,4 @@
+pub mod Fields
+pub mod Rows
+pub mod Judging
+pub mod Tables
