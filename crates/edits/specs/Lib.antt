@@ -1,0 +1,4 @@
+pub mod Rows
+pub mod Instances
+pub mod Edits
+pub mod Calls

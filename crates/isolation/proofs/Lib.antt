@@ -1,0 +1,10 @@
+pub mod Tables
+pub mod Circles
+pub mod Decisions
+pub mod TableEdits
+pub mod Edits
+pub mod Steps
+pub mod Alone
+pub mod Isolation
+pub mod Numbers
+pub mod Examples

@@ -1,0 +1,62 @@
+-- The two numbers by which the statement's conditions go each belong to one case of an edit's answer: 9 to 'table full', 0 to an edit
+-- accepted. Case by case. Assumes nothing.
+use mathlib.Core.Path.{_≡_, refl, ap}
+use mathlib.Core.Bool.{true, false}
+use lib.Dec.{eqb}
+use Rattle.answers.specs.declared.Cause.{Cause}
+use Rattle.answers.specs.declared.Cause.the-variants.{NoSuchContext, NoGroupName, NoAccessEntry, NoSuchView, NotInView}
+use Rattle.answers.specs.declared.Fault.{Fault}
+use Rattle.answers.specs.declared.Fault.the-variants.{NotSound, OutOfRange, TableFull, RowAbsent, StorageForbids, ContextTable, NotAnInstance, Torn, NotAscending, TooShort}
+use Rattle.answers.specs.Numbers.{causeNumber, faultNumber}
+use Rattle.lists.proofs.Bools.{clash}
+use Rattle.edits.specs.declared.Edited.{Edited}
+use Rattle.edits.specs.declared.Edited.the-variants.{Done, Barred, Faulty}
+use Rattle.edits.specs.Calls.{editedNumber}
+
+cause-nine : (c : Cause) → eqb (causeNumber c) 9 ≡ false
+cause-nine NoSuchContext = refl
+cause-nine NoGroupName = refl
+cause-nine NoAccessEntry = refl
+cause-nine NoSuchView = refl
+cause-nine NotInView = refl
+
+cause-zero : (c : Cause) → eqb (causeNumber c) 0 ≡ false
+cause-zero NoSuchContext = refl
+cause-zero NoGroupName = refl
+cause-zero NoAccessEntry = refl
+cause-zero NoSuchView = refl
+cause-zero NotInView = refl
+
+fault-nine : (f : Fault) → eqb (faultNumber f) 9 ≡ true → f ≡ TableFull
+fault-nine NotSound e = clash e refl
+fault-nine OutOfRange e = clash e refl
+fault-nine TableFull e = refl
+fault-nine RowAbsent e = clash e refl
+fault-nine StorageForbids e = clash e refl
+fault-nine ContextTable e = clash e refl
+fault-nine NotAnInstance e = clash e refl
+fault-nine Torn e = clash e refl
+fault-nine NotAscending e = clash e refl
+fault-nine TooShort e = clash e refl
+
+fault-zero : (f : Fault) → eqb (faultNumber f) 0 ≡ false
+fault-zero NotSound = refl
+fault-zero OutOfRange = refl
+fault-zero TableFull = refl
+fault-zero RowAbsent = refl
+fault-zero StorageForbids = refl
+fault-zero ContextTable = refl
+fault-zero NotAnInstance = refl
+fault-zero Torn = refl
+fault-zero NotAscending = refl
+fault-zero TooShort = refl
+
+pub nine-is-full : (r : Edited) → eqb (editedNumber r) 9 ≡ true → r ≡ Faulty TableFull
+nine-is-full Done e = clash e refl
+nine-is-full (Barred c) e = clash e (cause-nine c)
+nine-is-full (Faulty f) e = ap Faulty (fault-nine f e)
+
+pub zero-is-done : (r : Edited) → eqb (editedNumber r) 0 ≡ true → r ≡ Done
+zero-is-done Done e = refl
+zero-is-done (Barred c) e = clash e (cause-zero c)
+zero-is-done (Faulty f) e = clash e (fault-zero f)

@@ -1,0 +1,117 @@
+-- A table's rows put, removed and found, beside the rows that a test keeps.
+-- A put and a removal keep the order and what holds of every row. Where the test goes by the index, a put or a removal of a row
+-- that is kept commutes with the test, and one of a row that is not kept does not show. Only the put of a kept row needs the order:
+-- where the row goes in before one that is not kept, it is before all that follow. Assumes nothing.
+use mathlib.Core.Path.{_≡_, refl, sym, ap, _∙_}
+use mathlib.Core.Bool.{Bool, true, false}
+use mathlib.Core.List.{List, [], _∷_}
+use Prim.Native.Nat.{ℕ, _≤_}
+use native.Mathlib.Omega.{arith}
+use lib.ListN.{length}
+use Rattle.lists.specs.Lists.{keep, every, first, find}
+use Rattle.lists.specs.Order.{same, before}
+use Rattle.lists.proofs.Bools.{split, and-left, and-right}
+use Rattle.lists.proofs.Orders.{same-true, before-not-same, before-total}
+use Rattle.lists.proofs.Keeps.{keep-keep, find-first}
+use Rattle.lists.proofs.Greatest.{Under, Ascends, under-trans, under-keep}
+use Rattle.edits.specs.Rows.{rowAt, putRow, removeRow}
+
+module _ {A : Type 0} where
+  pub find-keep : (p f : A → Bool) (xs : List A) → ((x : A) → f x ≡ true → p x ≡ true) → find f (keep p xs) ≡ find f xs
+  find-keep p f xs c = find-first f (keep p xs) ∙ ap first (keep-keep p f xs c) ∙ sym (find-first f xs)
+
+  pub length-keep : (p : A → Bool) (xs : List A) → length (keep p xs) ≤ length xs
+  length-keep p [] = omega arith
+  length-keep p (x ∷ xs) =
+      let ih : length (keep p xs) ≤ length xs = length-keep p xs in split (p x) (λ e. rw e (omega arith)) (λ e. rw e (omega arith))
+
+module _ {R : Type 0} (indexOf : R → List ℕ) where
+  -- the order
+  under-put : (i : List ℕ) (r : R) (xs : List R) → before i (indexOf r) ≡ true → Under indexOf i xs → Under indexOf i (putRow indexOf r xs)
+  under-put i r [] h u = (h, tt)
+  under-put i r (x ∷ xs) h u =
+      let ih : Under indexOf i (putRow indexOf r xs) = under-put i r xs h (u .1) in
+      split (same (indexOf r) (indexOf x)) (λ e. rw e (h, u .1))
+      (λ e. split (before (indexOf r) (indexOf x)) (λ l. rw (e, l) (h, u)) (λ l. rw (e, l) (u .0, ih)))
+
+  pub ascends-put : (r : R) (xs : List R) → Ascends indexOf xs → Ascends indexOf (putRow indexOf r xs)
+  ascends-put r [] a = (tt, tt)
+  ascends-put r (x ∷ xs) a =
+      let ih : Ascends indexOf (putRow indexOf r xs) = ascends-put r xs (a .1) in
+      split (same (indexOf r) (indexOf x)) (λ e. rw e (rw (same-true (indexOf r) (indexOf x) e) (a .0), a .1))
+      (λ e. split (before (indexOf r) (indexOf x)) (λ l. rw (e, l) ((l, under-trans indexOf _ _ xs l (a .0)), a))
+      (λ l. rw (e, l) (under-put (indexOf x) r xs (before-total _ _ e l) (a .0), ih)))
+
+  under-remove : (j i : List ℕ) (xs : List R) → Under indexOf j xs → Under indexOf j (removeRow indexOf i xs)
+  under-remove j i [] u = tt
+  under-remove j i (x ∷ xs) u =
+      let ih : Under indexOf j (removeRow indexOf i xs) = under-remove j i xs (u .1) in
+      split (same i (indexOf x)) (λ e. rw e (u .1)) (λ e. rw e (u .0, ih))
+
+  pub ascends-remove : (i : List ℕ) (xs : List R) → Ascends indexOf xs → Ascends indexOf (removeRow indexOf i xs)
+  ascends-remove i [] a = tt
+  ascends-remove i (x ∷ xs) a =
+      let ih : Ascends indexOf (removeRow indexOf i xs) = ascends-remove i xs (a .1) in
+      split (same i (indexOf x)) (λ e. rw e (a .1)) (λ e. rw e (under-remove (indexOf x) i xs (a .0), ih))
+
+  -- what holds of every row
+  pub every-put : (g : R → Bool) (r : R) (xs : List R) → g r ≡ true → every g xs ≡ true → every g (putRow indexOf r xs) ≡ true
+  every-put g r [] h a = rw h
+  every-put g r (x ∷ xs) h a =
+      let gx : g x ≡ true = and-left _ _ a in
+      let rest : every g xs ≡ true = and-right (g x) _ a in
+      let ih : every g (putRow indexOf r xs) ≡ true = every-put g r xs h rest in
+      split (same (indexOf r) (indexOf x)) (λ e. rw (e, h) rest)
+      (λ e. split (before (indexOf r) (indexOf x)) (λ l. rw (e, l, h) a) (λ l. rw (e, l, gx) ih))
+
+  pub every-remove : (g : R → Bool) (i : List ℕ) (xs : List R) → every g xs ≡ true → every g (removeRow indexOf i xs) ≡ true
+  every-remove g i [] a = refl
+  every-remove g i (x ∷ xs) a =
+      let gx : g x ≡ true = and-left _ _ a in
+      let rest : every g xs ≡ true = and-right (g x) _ a in
+      let ih : every g (removeRow indexOf i xs) ≡ true = every-remove g i xs rest in
+      split (same i (indexOf x)) (λ e. rw e rest) (λ e. rw (e, gx) ih)
+
+  -- a row before all is put in front
+  put-under : (r : R) (xs : List R) → Under indexOf (indexOf r) xs → putRow indexOf r xs ≡ r ∷ xs
+  put-under r [] u = refl
+  put-under r (x ∷ xs) u = rw (before-not-same (indexOf r) (indexOf x) (u .0), u .0)
+
+  -- the rows that p keeps
+  module _ (p : R → Bool) where
+    pub keep-put-in : (r : R) (xs : List R) → ((x : R) → indexOf r ≡ indexOf x → p x ≡ true) → p r ≡ true → Ascends indexOf xs
+        → keep p (putRow indexOf r xs) ≡ putRow indexOf r (keep p xs)
+    keep-put-in r [] c h a = rw h
+    keep-put-in r (x ∷ xs) c h a =
+        let ih : keep p (putRow indexOf r xs) ≡ putRow indexOf r (keep p xs) = keep-put-in r xs c h (a .1) in
+        split (same (indexOf r) (indexOf x)) (λ e. let px : p x ≡ true = c x (same-true _ _ e) in rw (e, h, px) (rw e))
+        (λ e. split (before (indexOf r) (indexOf x))
+        (λ l. split (p x) (λ px. rw (e, l, h, px) (rw (e, l)))
+        (λ px. rw (e, l, h, px) (sym (put-under r (keep p xs) (under-keep indexOf (indexOf r) p xs (under-trans indexOf _ _ xs l (a .0)))))))
+        (λ l. split (p x) (λ px. rw (e, l, px) (rw (e, l, ih))) (λ px. rw (e, l, px) ih)))
+
+    pub keep-put-out : (r : R) (xs : List R) → ((x : R) → indexOf r ≡ indexOf x → p x ≡ false) → p r ≡ false
+        → keep p (putRow indexOf r xs) ≡ keep p xs
+    keep-put-out r [] c h = rw h
+    keep-put-out r (x ∷ xs) c h =
+        let ih : keep p (putRow indexOf r xs) ≡ keep p xs = keep-put-out r xs c h in
+        split (same (indexOf r) (indexOf x)) (λ e. let px : p x ≡ false = c x (same-true _ _ e) in rw (e, h, px))
+        (λ e. split (before (indexOf r) (indexOf x)) (λ l. rw (e, l, h)) (λ l. rw (e, l, ih)))
+
+    pub keep-remove-in : (i : List ℕ) (xs : List R) → ((x : R) → i ≡ indexOf x → p x ≡ true)
+        → keep p (removeRow indexOf i xs) ≡ removeRow indexOf i (keep p xs)
+    keep-remove-in i [] c = refl
+    keep-remove-in i (x ∷ xs) c =
+        let ih : keep p (removeRow indexOf i xs) ≡ removeRow indexOf i (keep p xs) = keep-remove-in i xs c in
+        split (same i (indexOf x)) (λ e. rw (e, c x (same-true _ _ e)) (rw e))
+        (λ e. split (p x) (λ px. rw (e, px) (rw (e, ih))) (λ px. rw (e, px) ih))
+
+    pub keep-remove-out : (i : List ℕ) (xs : List R) → ((x : R) → i ≡ indexOf x → p x ≡ false)
+        → keep p (removeRow indexOf i xs) ≡ keep p xs
+    keep-remove-out i [] c = refl
+    keep-remove-out i (x ∷ xs) c =
+        let ih : keep p (removeRow indexOf i xs) ≡ keep p xs = keep-remove-out i xs c in
+        split (same i (indexOf x)) (λ e. rw (e, c x (same-true _ _ e))) (λ e. rw (e, ih))
+
+    pub rowAt-keep : (i : List ℕ) (xs : List R) → ((x : R) → i ≡ indexOf x → p x ≡ true) → rowAt indexOf i (keep p xs) ≡ rowAt indexOf i xs
+    rowAt-keep i xs c = find-keep p (λ x. same i (indexOf x)) xs (λ x e. c x (same-true i (indexOf x) e))

@@ -1,0 +1,13 @@
+-- A list with a part of it replaced, what lies behind the part moved along. Assumes nothing.
+use mathlib.Core.List.{List, _++_}
+use Prim.Native.Nat.{ℕ, _+_, _-_}
+use lib.ListN.{length, take, drop}
+
+-- w in which the `gone` elements at `at` give way to `new`; what stood behind them up to `end` follows, and what lies past its new end stays
+abbrev pub spliced : List ℕ → ℕ → ℕ → ℕ → List ℕ → List ℕ
+spliced w at gone end new =
+    take at w ++ (new ++ (take (end - (at + gone)) (drop (at + gone) w) ++ drop (end - gone + length new) w))
+
+-- w in which the elements from `from` up to `end` stand from `to` on; the rest stays
+abbrev pub moved : List ℕ → ℕ → ℕ → ℕ → List ℕ
+moved w from end to = take to w ++ (take (end - from) (drop from w) ++ drop (to + (end - from)) w)
