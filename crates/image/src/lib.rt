@@ -68,9 +68,9 @@ pub fn end_of(w: &[u8], x: Extent) -> usize
     requires { ⌜ Inside (now w) x × (x .count ≤ 240) ⌝ }
     ensures { λ r. ⌜ r ≡ endOf (now (w .entry)) x ⌝ }
 {
-    let n = x.count;
     let at = x.lengths;
-    x.rows + sum(w, at, n)
+    let rows = x.count;
+    x.rows + sum(w, at, rows)
 }
 
 // The rows of a table judged one after the other: where they end.
