@@ -19,7 +19,7 @@ use Rattle.procedure.specs.Request.{asked}
 use Rattle.procedure.specs.Decision.{decision}
 use Rattle.edits.specs.declared.Edited.{Edited}
 use Rattle.edits.specs.declared.Edited.the-variants.{Done, Barred, Faulty}
-use Rattle.edits.specs.Rows.{rowAt, putRow, removeRow}
+use Rattle.exchange.specs.Tables.{rowAt, putRow, removeRow}
 use Rattle.edits.specs.Instances.{instance, statusColumn}
 
 -- ---- indices of rows

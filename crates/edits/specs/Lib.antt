@@ -1,4 +1,3 @@
-pub mod Rows
 pub mod Instances
 pub mod Edits
 pub mod Calls

@@ -15,7 +15,7 @@ use Rattle.lists.specs.Lists.{keep}
 use Rattle.lists.proofs.Bools.{split, clash}
 use Rattle.lists.proofs.Greatest.{Ascends}
 use Rattle.rows.specs.Rows.{limit}
-use Rattle.edits.specs.Rows.{rowAt, putRow, removeRow}
+use Rattle.exchange.specs.Tables.{rowAt, putRow, removeRow}
 use Rattle.edits.specs.Edits.{Outcome, mayPut, mayRemove, putOver, removeOver, puts, removes}
 use Rattle.edits.specs.Calls.{editedNumber}
 use Rattle.isolation.proofs.Tables.{length-keep, ascends-put, ascends-remove, every-put, every-remove, keep-put-in, keep-put-out, keep-remove-in, keep-remove-out, rowAt-keep}

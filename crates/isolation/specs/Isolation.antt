@@ -19,7 +19,7 @@ use Rattle.image.specs.Store.{held}
 use Rattle.procedure.specs.Request.{Request}
 use Rattle.procedure.specs.Decision.{answer}
 use Rattle.edits.specs.declared.Edited.{Edited}
-use Rattle.edits.specs.Rows.{rowAt}
+use Rattle.exchange.specs.Tables.{rowAt}
 use Rattle.edits.specs.Edits.{Edit, put, remove, Caller, contextIndex, mappingIndex, accessIndex, viewIndex}
 use Rattle.edits.specs.Calls.{editedNumber, OwnerEdits, PrincipalEdits}
 

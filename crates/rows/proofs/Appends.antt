@@ -3,17 +3,19 @@
 -- fields come first. Assumes nothing.
 use mathlib.Core.Path.{_≡_, refl, sym, ap, _∙_}
 use mathlib.Core.List.{List, [], _∷_, _++_}
-use mathlib.Core.Option.{none}
+use mathlib.Core.Option.{Option, none, some}
 use Prim.Native.Nat.{ℕ, suc, _+_, _≤_}
 use native.Mathlib.Nat.{add-assoc}
 use native.Mathlib.Omega.{arith}
 use lib.ListN.{length, take, drop, length-drop}
 use lib.Seq.{drop-drop, take-at}
+use Rattle.answers.specs.declared.Fault.{Fault}
 use Rattle.rows.specs.declared.Table.{Table}
 use Rattle.rows.specs.declared.Table.the-variants.{Context, Mapping, Access, View}
-use Rattle.rows.specs.Fields.{Field, taken, value, faults, values, span}
-use Rattle.rows.specs.Rows.{contextRest, mappingRest, accessRest, viewRest, keyFields, rowFields}
-use Rattle.rows.proofs.Sound.{field-room, faults-first, faults-rest}
+use Rattle.rows.specs.Fields.{Field, fault, taken, value, orElse, fronts, faults, values, span}
+use Rattle.rows.specs.Rows.{keyFields, rowFields}
+pub use Rattle.rows.specs.Rows.{restFields}
+use Rattle.rows.proofs.Sound.{field-room, or-else-none}
 
 pub span-append : (ps qs : List Field) (v : List ℕ) → span (ps ++ qs) v ≡ span ps v + span qs (drop (span ps v) v)
 unfolding span
@@ -39,30 +41,38 @@ length-values (k ∷ ks) v = ap suc (length-values ks (drop (taken k v) v))
 pub values-front : (ps qs : List Field) (v : List ℕ) → take (length ps) (values (ps ++ qs) v) ≡ values ps v
 values-front ps qs v = rw (values-append ps qs v) (take-at (values ps v) _ (length ps) (length-values ps v))
 
--- without a fault the first fields take bytes that are there, and the others have none
-pub span-room : (ps qs : List Field) (v : List ℕ) → faults (ps ++ qs) v ≡ none → span ps v ≤ length v
-unfolding span
-span-room [] qs v h = omega arith
-span-room (p ∷ ps) qs v h =
-    let m = taken p v in
-    let a : m ≤ length v = field-room p v (faults-first p (ps ++ qs) v h) in
-    let b : span ps (drop m v) ≤ length (drop m v) = span-room ps qs (drop m v) (faults-rest p (ps ++ qs) v h) in
-    omega (arith, length-drop m v)
+-- the fault of the first fields comes first, then that of the others
+or-else-assoc : (o p q : Option Fault) → orElse (orElse o p) q ≡ orElse o (orElse p q)
+or-else-assoc none p q = refl
+or-else-assoc (some f) p q = refl
 
-pub faults-append : (ps qs : List Field) (v : List ℕ) → faults (ps ++ qs) v ≡ none → faults qs (drop (span ps v) v) ≡ none
-unfolding span
-faults-append [] qs v h = h
-faults-append (p ∷ ps) qs v h =
+pub faults-fronts : (ps qs : List Field) (v : List ℕ) → faults (ps ++ qs) v ≡ orElse (fronts ps v) (faults qs (drop (span ps v) v))
+unfolding fronts faults span
+faults-fronts [] qs v = refl
+faults-fronts (p ∷ ps) qs v =
+    ap (orElse (fault p v)) (faults-fronts ps qs (drop (taken p v) v) ∙ rw (drop-drop (span ps (drop (taken p v) v)) (taken p v) v))
+    ∙ sym (or-else-assoc (fault p v) _ _)
+
+-- without a fault the first fields take bytes that are there, and the others have none
+pub fronts-room : (ps : List Field) (v : List ℕ) → fronts ps v ≡ none → span ps v ≤ length v
+unfolding fronts span
+fronts-room [] v h = omega arith
+fronts-room (p ∷ ps) v h =
     let m = taken p v in
-    ap (faults qs) (sym (drop-drop (span ps (drop m v)) m v)) ∙ faults-append ps qs (drop m v) (faults-rest p (ps ++ qs) v h)
+    let n = or-else-none (fault p v) (fronts ps (drop m v)) h in
+    omega (arith, field-room p v (n .0), fronts-room ps (drop m v) (n .1), length-drop m v)
+
+module _ (ps qs : List Field) (v : List ℕ) (h : faults (ps ++ qs) v ≡ none) where
+  parts : (fronts ps v ≡ none) × (faults qs (drop (span ps v) v) ≡ none)
+  parts = or-else-none (fronts ps v) _ (sym (faults-fronts ps qs v) ∙ h)
+
+  pub span-room : span ps v ≤ length v
+  span-room = fronts-room ps v (parts .0)
+
+  pub faults-append : faults qs (drop (span ps v) v) ≡ none
+  faults-append = parts .1
 
 -- ---- the rows of a table: the key's fields, then the others
-
-abbrev pub restFields : Table → List Field
-restFields Context = contextRest
-restFields Mapping = mappingRest
-restFields Access = accessRest
-restFields View = viewRest
 
 pub row-split : (t : Table) → rowFields t ≡ keyFields t ++ restFields t
 unfolding keyFields rowFields

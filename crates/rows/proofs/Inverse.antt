@@ -20,7 +20,7 @@ use Rattle.rows.proofs.Appends.{span-room, faults-append}
 
 -- ---- bytes made, then read
 
-length-bytes : (w : Width) (x : ℕ) → length (bytes w x) ≡ size w
+pub length-bytes : (w : Width) (x : ℕ) → length (bytes w x) ≡ size w
 length-bytes octet x = refl
 length-bytes word x = refl
 
@@ -28,7 +28,7 @@ number-bytes : (w : Width) (x : ℕ) (r : List ℕ) → x < bound w → number w
 number-bytes octet x r h = refl
 number-bytes word x r h = omega arith
 
-length-bytesOf : (w : Width) (xs : List ℕ) → length (bytesOf w xs) ≡ length xs * size w
+pub length-bytesOf : (w : Width) (xs : List ℕ) → length (bytesOf w xs) ≡ length xs * size w
 length-bytesOf w [] = sym (zero-mul (size w))
 length-bytesOf w (x ∷ xs) =
     let a : length (bytesOf w xs) ≡ length xs * size w = length-bytesOf w xs in

@@ -53,7 +53,7 @@ field-room (sequence w lo hi) v h = sequence-room (size w) lo hi v h
 field-room (integer w lo hi) v h = integer-room w lo hi v h
 
 -- a row without fault: its first field has none, and what follows has none
-or-else-none : (o p : Option Fault) → orElse o p ≡ none → (o ≡ none) × (p ≡ none)
+pub or-else-none : (o p : Option Fault) → orElse o p ≡ none → (o ≡ none) × (p ≡ none)
 or-else-none none p e = (refl, e)
 or-else-none (some f) p e = (e, cc)
 

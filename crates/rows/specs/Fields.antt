@@ -86,6 +86,11 @@ unfoldable pub faults : List Field → List ℕ → Option Fault
 faults [] v = cond (eqb (length v) 0) none (some Torn)
 faults (k ∷ ks) v = orElse (fault k v) (faults ks (drop (taken k v) v))
 
+-- the same of fields that others may follow: bytes over are no fault
+unfoldable pub fronts : List Field → List ℕ → Option Fault
+fronts [] v = none
+fronts (k ∷ ks) v = orElse (fault k v) (fronts ks (drop (taken k v) v))
+
 abbrev pub values : List Field → List ℕ → List (List ℕ)
 values [] v = []
 values (k ∷ ks) v = value k v ∷ values ks (drop (taken k v) v)

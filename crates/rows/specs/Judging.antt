@@ -7,7 +7,7 @@ use Rattle.answers.specs.declared.Fault.{Fault}
 use Rattle.rows.specs.declared.Step.{Step}
 use Rattle.rows.specs.declared.Step.the-variants.{At, Bad}
 use Rattle.rows.specs.declared.Table.{Table}
-use Rattle.rows.specs.Fields.{Width, size, Field, fault, taken, sequenceFault, integerFault, faults, span}
+use Rattle.rows.specs.Fields.{Width, size, Field, sequenceFault, integerFault, fronts, faults, span}
 use Rattle.rows.specs.Rows.{keyFields, rowFields}
 
 -- the place reached where nothing is wrong
@@ -22,6 +22,13 @@ sequenceStep s lo hi row at = reached (sequenceFault s lo hi (drop at row)) (at 
 abbrev pub integerStep : Width → ℕ → ℕ → List ℕ → ℕ → Step
 integerStep w lo hi row at = reached (integerFault w lo hi (drop at row)) (at + size w)
 
--- a row of a table: where its key ends
+-- fields from `at` on: where they end
+abbrev pub fieldsStep : List Field → List ℕ → ℕ → Step
+fieldsStep ks row at = reached (fronts ks (drop at row)) (at + span ks (drop at row))
+
+-- a row of a table, or a key by itself: where the key ends
 abbrev pub rowStep : Table → List ℕ → Step
 rowStep t row = reached (faults (rowFields t) row) (span (keyFields t) row)
+
+abbrev pub keyStep : Table → List ℕ → Step
+keyStep t key = reached (faults (keyFields t) key) (span (keyFields t) key)

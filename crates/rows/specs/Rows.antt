@@ -84,6 +84,13 @@ keyFields Mapping = mappingKey
 keyFields Access = accessKey
 keyFields View = viewKey
 
+-- the fields behind the key
+abbrev pub restFields : Table → List Field
+restFields Context = contextRest
+restFields Mapping = mappingRest
+restFields Access = accessRest
+restFields View = viewRest
+
 unfoldable pub rowFields : Table → List Field
 rowFields Context = contextKey ++ contextRest
 rowFields Mapping = mappingKey ++ mappingRest

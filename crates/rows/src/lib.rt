@@ -3,10 +3,10 @@ use answers::Fault;
 ghost use mathlib.Core.Path.{_≡_};
 ghost use Prim.Native.Nat.{_+_, _*_, _≤_, _<_};
 ghost use lib.ListN.{length, drop, getD};
-ghost use Rattle.rows.specs.declared.Table.the-variants.{Context, Mapping, Access, View};
 ghost use mathlib.Core.List.{[]};
 ghost use Rattle.rows.specs.Fields.{octet, word, number, faults};
-ghost use Rattle.rows.specs.Judging.{reached, sequenceStep, integerStep, rowStep};
+ghost use Rattle.rows.specs.Rows.{contextKey, mappingKey, mappingRest, accessKey, accessRest, viewKey, viewRest, keyFields, restFields};
+ghost use Rattle.rows.specs.Judging.{reached, sequenceStep, integerStep, fieldsStep, keyStep, rowStep};
 
 // The tables, in document 01's order.
 pub enum Table {
@@ -108,44 +108,39 @@ fn whole(row: &[u8], end: usize, key: usize) -> Step
     Step::At(key)
 }
 
-fn context(row: &[u8]) -> Step
-    ensures { λ r. ⌜ r ≡ rowStep Context (now (row .entry)) ⌝ }
+fn context_key(row: &[u8]) -> Step
+    ensures { λ r. ⌜ r ≡ fieldsStep contextKey (now (row .entry)) 0 ⌝ }
 {
-    let name = sequence(row, 0, 1, 0, 32);
-    let Step::At(a) = name else {
-        return name;
-    };
-    whole(row, a, a)
+    sequence(row, 0, 1, 0, 32)
 }
 
-fn mapping(row: &[u8]) -> Step
-    ensures { λ r. ⌜ r ≡ rowStep Mapping (now (row .entry)) ⌝ }
+fn mapping_key(row: &[u8]) -> Step
+    ensures { λ r. ⌜ r ≡ fieldsStep mappingKey (now (row .entry)) 0 ⌝ }
 {
     let model = large(row, 0, 1, 2147483647);
     let Step::At(a) = model else {
         return model;
     };
-    let name = sequence(row, a, 1, 1, 32);
-    let Step::At(b) = name else {
-        return name;
-    };
-    let group = sequence(row, b, 1, 1, 32);
-    let Step::At(c) = group else {
-        return group;
-    };
-    let storage = small(row, c, 2, 5);
-    let Step::At(d) = storage else {
-        return storage;
-    };
-    let status = small(row, d, 1, 2);
-    let Step::At(e) = status else {
-        return status;
-    };
-    whole(row, e, b)
+    sequence(row, a, 1, 1, 32)
 }
 
-fn access(row: &[u8]) -> Step
-    ensures { λ r. ⌜ r ≡ rowStep Access (now (row .entry)) ⌝ }
+fn mapping_rest(row: &[u8], key: usize) -> Step
+    requires { ⌜ key ≤ length (now row) ⌝ }
+    ensures { λ r. ⌜ r ≡ fieldsStep mappingRest (now (row .entry)) key ⌝ }
+{
+    let group = sequence(row, key, 1, 1, 32);
+    let Step::At(a) = group else {
+        return group;
+    };
+    let storage = small(row, a, 2, 5);
+    let Step::At(b) = storage else {
+        return storage;
+    };
+    small(row, b, 1, 2)
+}
+
+fn access_key(row: &[u8]) -> Step
+    ensures { λ r. ⌜ r ≡ fieldsStep accessKey (now (row .entry)) 0 ⌝ }
 {
     let group = sequence(row, 0, 1, 1, 32);
     let Step::At(a) = group else {
@@ -159,75 +154,112 @@ fn access(row: &[u8]) -> Step
     let Step::At(c) = model else {
         return model;
     };
-    let level = small(row, c, 1, 3);
-    let Step::At(d) = level else {
-        return level;
-    };
-    let exact = small(row, d, 1, 2);
-    let Step::At(e) = exact else {
-        return exact;
-    };
-    let read = sequence(row, e, 1, 0, 32);
-    let Step::At(f) = read else {
-        return read;
-    };
-    let write = sequence(row, f, 1, 0, 32);
-    let Step::At(g) = write else {
-        return write;
-    };
-    let notify = sequence(row, g, 1, 0, 32);
-    let Step::At(h) = notify else {
-        return notify;
-    };
-    let storage = small(row, h, 2, 5);
-    let Step::At(i) = storage else {
-        return storage;
-    };
-    let status = small(row, i, 1, 2);
-    let Step::At(j) = status else {
-        return status;
-    };
-    whole(row, j, d)
+    small(row, c, 1, 3)
 }
 
-fn view(row: &[u8]) -> Step
-    ensures { λ r. ⌜ r ≡ rowStep View (now (row .entry)) ⌝ }
+fn access_rest(row: &[u8], key: usize) -> Step
+    requires { ⌜ key ≤ length (now row) ⌝ }
+    ensures { λ r. ⌜ r ≡ fieldsStep accessRest (now (row .entry)) key ⌝ }
 {
-    let name = sequence(row, 0, 1, 1, 32);
-    let Step::At(a) = name else {
-        return name;
+    let exact = small(row, key, 1, 2);
+    let Step::At(a) = exact else {
+        return exact;
     };
-    let subtree = sequence(row, a, 4, 1, 64);
-    let Step::At(b) = subtree else {
-        return subtree;
+    let read = sequence(row, a, 1, 0, 32);
+    let Step::At(b) = read else {
+        return read;
     };
-    let mask = sequence(row, b, 1, 0, 16);
-    let Step::At(c) = mask else {
-        return mask;
+    let write = sequence(row, b, 1, 0, 32);
+    let Step::At(c) = write else {
+        return write;
     };
-    let kind = small(row, c, 1, 2);
-    let Step::At(d) = kind else {
-        return kind;
+    let notify = sequence(row, c, 1, 0, 32);
+    let Step::At(d) = notify else {
+        return notify;
     };
     let storage = small(row, d, 2, 5);
     let Step::At(e) = storage else {
         return storage;
     };
-    let status = small(row, e, 1, 2);
-    let Step::At(f) = status else {
-        return status;
+    small(row, e, 1, 2)
+}
+
+fn view_key(row: &[u8]) -> Step
+    ensures { λ r. ⌜ r ≡ fieldsStep viewKey (now (row .entry)) 0 ⌝ }
+{
+    let name = sequence(row, 0, 1, 1, 32);
+    let Step::At(a) = name else {
+        return name;
     };
-    whole(row, f, b)
+    sequence(row, a, 4, 1, 64)
+}
+
+fn view_rest(row: &[u8], key: usize) -> Step
+    requires { ⌜ key ≤ length (now row) ⌝ }
+    ensures { λ r. ⌜ r ≡ fieldsStep viewRest (now (row .entry)) key ⌝ }
+{
+    let mask = sequence(row, key, 1, 0, 16);
+    let Step::At(a) = mask else {
+        return mask;
+    };
+    let kind = small(row, a, 1, 2);
+    let Step::At(b) = kind else {
+        return kind;
+    };
+    let storage = small(row, b, 2, 5);
+    let Step::At(c) = storage else {
+        return storage;
+    };
+    small(row, c, 1, 2)
+}
+
+// The key's fields at the front of a row: where they end.
+fn key_fields(t: Table, row: &[u8]) -> Step
+    ensures { λ r. ⌜ r ≡ fieldsStep (keyFields t) (now (row .entry)) 0 ⌝ }
+{
+    match t {
+        Table::Context => context_key(row),
+        Table::Mapping => mapping_key(row),
+        Table::Access => access_key(row),
+        Table::View => view_key(row),
+    }
+}
+
+// The fields behind the key: where they end.
+fn rest_fields(t: Table, row: &[u8], key: usize) -> Step
+    requires { ⌜ key ≤ length (now row) ⌝ }
+    ensures { λ r. ⌜ r ≡ fieldsStep (restFields t) (now (row .entry)) key ⌝ }
+{
+    match t {
+        Table::Context => Step::At(key),
+        Table::Mapping => mapping_rest(row, key),
+        Table::Access => access_rest(row, key),
+        Table::View => view_rest(row, key),
+    }
+}
+
+// The key of a table judged, by itself.
+pub fn judge_key(t: Table, key: &[u8]) -> Step
+    ensures { λ r. ⌜ r ≡ keyStep t (now (key .entry)) ⌝ }
+{
+    let fields = key_fields(t, key);
+    let Step::At(a) = fields else {
+        return fields;
+    };
+    whole(key, a, a)
 }
 
 // The row of a table judged: where its key ends.
 pub fn judge(t: Table, row: &[u8]) -> Step
     ensures { λ r. ⌜ r ≡ rowStep t (now (row .entry)) ⌝ }
 {
-    match t {
-        Table::Context => context(row),
-        Table::Mapping => mapping(row),
-        Table::Access => access(row),
-        Table::View => view(row),
-    }
+    let key = key_fields(t, row);
+    let Step::At(a) = key else {
+        return key;
+    };
+    let rest = rest_fields(t, row, a);
+    let Step::At(b) = rest else {
+        return rest;
+    };
+    whole(row, b, a)
 }

@@ -1,58 +1,88 @@
--- `rows::judge` meets its contract: in each arm the table is known, and what the table's own judge ensures is the answer.
+-- `rows::judge` meets its contract: a fault of the key's fields is the row's, then one of the fields behind them, then bytes over.
 -- Assumes nothing.
+use mathlib.Core.Path.{_≡_, _∙_}
+use Prim.Native.Nat.{ℕ, _≤_}
+use native.Mathlib.Omega.{arith}
+use lib.ListN.{length, drop}
 use borrow.Author.Needs.{needs}
+use Rattle.rows.specs.Fields.{faults, span}
+use Rattle.rows.specs.Rows.{keyFields, restFields, rowFields}
+use Rattle.rows.proofs.Appends.{row-split}
+use Rattle.rows.proofs.Judging.{fields-stop, fields-bad, fields-end, fields-inside, fields-go, fields-whole}
 use Rattle.rows.proofs.judge.Statement.{statement}
 use Rattle.rows.proofs.judge.Tie as tie
+
+-- past the key: where it ends, and what the row's fault is there
+record Keyed (c : tie.After-known-told) : Type 0 where
+  ends : let s = c .before .before .before .before .before .args in span (keyFields (s .t)) (s .row .now) ≡ c .before .key .given .0 .0
+  inside : c .before .key .given .0 .0 ≤ length (c .before .before .before .before .before .args .row .now)
+  judged : let s = c .before .before .before .before .before .args in
+      faults (rowFields (s .t)) (s .row .now) ≡ faults (restFields (s .t)) (drop (c .before .key .given .0 .0) (s .row .now))
+
+keyed : (c : tie.After-known-told) → Keyed c
+keyed c =
+    let s = c .before .before .before .before .before .args in
+    let e = c .before .before .before .key-fields .ensures in
+    let q = c .before .key .given .1 in
+    record {
+      ends = omega (arith, fields-end (keyFields (s .t)) (s .row .now) 0 e q);
+      inside = fields-inside (keyFields (s .t)) (s .row .now) 0 e q (omega arith);
+      judged = rw (row-split (s .t)) (fields-go (keyFields (s .t)) (s .row .now) 0 e q (restFields (s .t)));
+    }
+
+key-fields-requires : tie.Need-key-fields-requires
+key-fields-requires c κs = search needs
+
+enum-known-key : tie.Need-enum-known-key
+enum-known-key c = search needs
 
 enum-told : tie.Need-enum-told
 enum-told c = search needs
 
-context-requires : tie.Need-context-requires
-context-requires c κs = search needs
+returns : tie.Need-returns
+returns c =
+    let s = c .before .before .before .before .args in
+    rw (row-split (s .t)) (fields-stop (keyFields (s .t)) (s .row .now) 0 (c .before .before .key-fields .ensures) (c .enum-told .given .1) (restFields (s .t)) _)
+
+rest-fields-requires : tie.Need-rest-fields-requires
+rest-fields-requires c κs = keyed c .inside
+
+enum-known-rest : tie.Need-enum-known-rest
+enum-known-rest c = search needs
 
 enum-told-2 : tie.Need-enum-told-2
 enum-told-2 c = search needs
 
-mapping-requires : tie.Need-mapping-requires
-mapping-requires c κs = search needs
-
-enum-told-3 : tie.Need-enum-told-3
-enum-told-3 c = search needs
-
-access-requires : tie.Need-access-requires
-access-requires c κs = search needs
-
-enum-told-4 : tie.Need-enum-told-4
-enum-told-4 c = search needs
-
-view-requires : tie.Need-view-requires
-view-requires c κs = search needs
-
-returns : tie.Need-returns
-returns c = rw (c .before .enum-told .given .1) (c .context .ensures)
-
 returns-2 : tie.Need-returns-2
-returns-2 c = rw (c .before .enum-told2 .given .1) (c .mapping .ensures)
+returns-2 c =
+    let x = c .before .before .before in
+    let s = x .before .before .before .before .before .args in
+    let a = x .before .key .given .0 .0 in
+    rw (keyed x .judged) (fields-bad (restFields (s .t)) (s .row .now) a (c .before .before .rest-fields .ensures) (c .enum-told2 .given .1) (span (keyFields (s .t)) (s .row .now)))
+
+whole-requires : tie.Need-whole-requires
+whole-requires c κs = search needs
 
 returns-3 : tie.Need-returns-3
-returns-3 c = rw (c .before .enum-told3 .given .1) (c .access .ensures)
-
-returns-4 : tie.Need-returns-4
-returns-4 c = rw (c .before .enum-told4 .given .1) (c .view .ensures)
+returns-3 c =
+    let y = c .before in
+    let x = y .before .before .before .before in
+    let s = x .before .before .before .before .before .args in
+    let a = x .before .key .given .0 .0 in
+    rw (keyed x .judged, fields-whole (restFields (s .t)) (s .row .now) a (y .before .before .before .rest-fields .ensures) (y .before .rest .given .1), keyed x .ends)
+    (c .whole .ensures)
 
 pub judge-spec : {M : Type 1} → statement M
 judge-spec =
     tie.close
     (tie.spec
+    key-fields-requires
+    enum-known-key
     enum-told
-    context-requires
-    enum-told-2
-    mapping-requires
-    enum-told-3
-    access-requires
-    enum-told-4
-    view-requires
     returns
+    rest-fields-requires
+    enum-known-rest
+    enum-told-2
     returns-2
-    returns-3
-    returns-4)
+    whole-requires
+    returns-3)

@@ -1,5 +1,5 @@
 -- A table's rows, ascending by index: the row held, a row put, a row removed. Over any row and its index. Assumes nothing.
-use mathlib.Core.Bool.{Bool, true, false, cond}
+use mathlib.Core.Bool.{cond}
 use mathlib.Core.List.{List, [], _∷_}
 use mathlib.Core.Option.{Option}
 use Prim.Native.Nat.{ℕ}

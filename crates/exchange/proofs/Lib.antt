@@ -1,0 +1,10 @@
+pub mod Seeks
+pub mod Written
+pub mod Splits
+pub mod Swaps
+pub mod Images
+pub mod Exchanges
+pub mod Keys
+pub mod Typed
+pub mod Faults
+pub mod Stores

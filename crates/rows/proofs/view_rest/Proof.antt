@@ -1,0 +1,100 @@
+-- `rows::view_rest` meets its contract: a walk over the fields behind the key (`Judging`), one step for each that is judged.
+-- `atN` says where the first N fields end. A fault ends the walk, and the step of the last field is the answer. Assumes nothing.
+use mathlib.Core.List.{List}
+use Prim.Native.Nat.{ℕ}
+use native.Mathlib.Omega.{arith}
+use borrow.Author.Needs.{needs}
+use Rattle.rows.specs.Rows.{viewRest}
+use Rattle.rows.proofs.Judging.{Passed, start, go, stop, land}
+use Rattle.rows.proofs.view_rest.Statement.{statement}
+use Rattle.rows.proofs.view_rest.Tie as tie
+
+abbrev row1 : tie.After-known-told → List ℕ
+row1 c = c .before .before .before .before .before .args .row .now
+
+abbrev key1 : tie.After-known-told → ℕ
+key1 c = c .before .before .before .before .before .args .key
+
+at1 : (c : tie.After-known-told) → Passed viewRest 1 (row1 c) (key1 c) (c .before .mask .given .0 .0)
+at1 c = go (start viewRest (row1 c) (key1 c) (c .before .before .before .before .before .pre)) (c .before .before .before .sequence .ensures) (c .before .mask .given .1)
+
+abbrev row2 : tie.After-known-told2 → List ℕ
+row2 c = row1 (c .before .before .before .before)
+
+abbrev key2 : tie.After-known-told2 → ℕ
+key2 c = key1 (c .before .before .before .before)
+
+at2 : (c : tie.After-known-told2) → Passed viewRest 2 (row2 c) (key2 c) (c .before .kind .given .0 .0)
+at2 c = go (at1 (c .before .before .before .before)) (c .before .before .before .small .ensures) (c .before .kind .given .1)
+
+abbrev row3 : tie.After-known-told3 → List ℕ
+row3 c = row2 (c .before .before .before .before)
+
+abbrev key3 : tie.After-known-told3 → ℕ
+key3 c = key2 (c .before .before .before .before)
+
+at3 : (c : tie.After-known-told3) → Passed viewRest 3 (row3 c) (key3 c) (c .before .storage .given .0 .0)
+at3 c = go (at2 (c .before .before .before .before)) (c .before .before .before .small2 .ensures) (c .before .storage .given .1)
+
+sequence-requires : tie.Need-sequence-requires
+sequence-requires c κs = search needs
+
+enum-known-mask : tie.Need-enum-known-mask
+enum-known-mask c = search needs
+
+enum-told : tie.Need-enum-told
+enum-told c = search needs
+
+returns : tie.Need-returns
+returns c =
+    let s = c .before .before .before .before in
+    stop (start viewRest (s .args .row .now) (s .args .key) (s .pre)) (c .before .before .sequence .ensures) (c .enum-told .given .1) _
+
+small-requires : tie.Need-small-requires
+small-requires c κs = at1 c .inside
+
+enum-known-kind : tie.Need-enum-known-kind
+enum-known-kind c = search needs
+
+enum-told-2 : tie.Need-enum-told-2
+enum-told-2 c = search needs
+
+returns-2 : tie.Need-returns-2
+returns-2 c = stop (at1 (c .before .before .before)) (c .before .before .small .ensures) (c .enum-told2 .given .1) _
+
+small-requires-2 : tie.Need-small-requires-2
+small-requires-2 c κs = at2 c .inside
+
+enum-known-storage : tie.Need-enum-known-storage
+enum-known-storage c = search needs
+
+enum-told-3 : tie.Need-enum-told-3
+enum-told-3 c = search needs
+
+returns-3 : tie.Need-returns-3
+returns-3 c = stop (at2 (c .before .before .before)) (c .before .before .small2 .ensures) (c .enum-told3 .given .1) _
+
+small-requires-3 : tie.Need-small-requires-3
+small-requires-3 c κs = at3 c .inside
+
+returns-4 : tie.Need-returns-4
+returns-4 c = land (at3 (c .before)) (c .small3 .ensures)
+
+pub view-rest-spec : {M : Type 1} → statement M
+view-rest-spec =
+    tie.close
+    (tie.spec
+    sequence-requires
+    enum-known-mask
+    enum-told
+    returns
+    small-requires
+    enum-known-kind
+    enum-told-2
+    returns-2
+    small-requires-2
+    enum-known-storage
+    enum-told-3
+    returns-3
+    small-requires-3
+    returns-4)
