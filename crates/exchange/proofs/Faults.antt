@@ -1,6 +1,6 @@
 -- A table's rows exchanged at a key's place stay without fault: those before the place have lower indices than the key, what comes in has
--- the key's own, and what follows has higher ones (`fault-exchanged`). So they stay as long as rows of their table can be, and no more
--- rows are there than were, less those gone, and those new. Assumes nothing.
+-- the key's own, and what follows has higher ones (`fault-exchanged`). Rows without fault take no more bytes than as many of the table's
+-- longest, and how many rows and bytes there are changes by those that go and those that come. Assumes nothing.
 use mathlib.Core.Path.{_≡_, refl, ap, subst, _∙_}
 use mathlib.Core.Bool.{true}
 use mathlib.Core.List.{List, [], _∷_, _++_}

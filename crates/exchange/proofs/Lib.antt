@@ -8,3 +8,4 @@ pub mod Keys
 pub mod Typed
 pub mod Faults
 pub mod Stores
+pub mod Rooms

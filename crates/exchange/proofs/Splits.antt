@@ -56,6 +56,22 @@ pub record Split (w : List ℕ) (h f : ℕ) (ts : List (List (List ℕ))) (x : E
   pub lengths-at : x .lengths ≡ h + 2 * length (joined ahead)
   pub rows-at : x .rows ≡ f + length (joined (joined ahead))
 
+-- one table more ahead
+split-next : {w : List ℕ} {ts : List (List (List ℕ))} {x : Extent} {n : ℕ} (h f c : ℕ) → endOf w (extent h f c) ≤ length w
+    → Split w (h + 2 * c) (endOf w (extent h f c)) ts x n → Split w h f (rowsIn w (extent h f c) ∷ ts) x (suc n)
+split-next {w} h f c r s =
+    let t = rowsIn w (extent h f c) in
+    record {
+      ahead = t ∷ s .ahead;
+      behind = s .behind;
+      tables-are = ap (λ ts. t ∷ ts) (s .tables-are);
+      place-is = ap suc (s .place-is);
+      lengths-at = omega (arith, s .lengths-at, length-append t (joined (s .ahead)), length-rows w (extent h f c));
+      rows-at =
+          s .rows-at
+          ∙ omega (arith, total-rows w (extent h f c) r, ap length (joined-append t (joined (s .ahead))), length-append (joined t) (joined (joined (s .ahead))));
+    }
+
 pub split-extents : (cs w : List ℕ) (h f n : ℕ) → n < length cs → f + total (pairs (total cs) (drop h w)) ≤ length w
     → Split w h f (map (rowsIn w) (extents cs w h f)) (getD (extents cs w h f) n (extent 0 0 0)) n
 split-extents [] w h f n k r = absurd (omega arith)
@@ -68,20 +84,8 @@ split-extents (c ∷ cs) w h f zero k r = record {
   rows-at = omega arith;
 }
 split-extents (c ∷ cs) w h f (suc n) k r =
-    let x = extent h f c in
     let q = total-pairs w h c (total cs) in
-    let s = split-extents cs w (h + 2 * c) (endOf w x) n (omega arith) (omega (arith, q, r)) in
-    let e = total-rows w x (omega (arith, q, r)) in
-    record {
-      ahead = rowsIn w x ∷ s .ahead;
-      behind = s .behind;
-      tables-are = ap (λ ts. rowsIn w x ∷ ts) (s .tables-are);
-      place-is = ap suc (s .place-is);
-      lengths-at = omega (arith, s .lengths-at, length-append (rowsIn w x) (joined (s .ahead)), length-rows w x);
-      rows-at =
-          s .rows-at
-          ∙ omega (arith, e, ap length (joined-append (rowsIn w x) (joined (s .ahead))), length-append (joined (rowsIn w x)) (joined (joined (s .ahead))));
-    }
+    split-next h f c (omega (arith, q, r)) (split-extents cs w (h + 2 * c) (endOf w (extent h f c)) n (omega arith) (omega (arith, q, r)))
 
 -- ---- the four tables of an image
 

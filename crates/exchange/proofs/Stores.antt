@@ -1,16 +1,14 @@
--- A sound store with a row of a table exchanged at a key's place is sound again, and has room for it.
--- Soundness as facts by table (`SoundStore`): the table that is exchanged has them by `Faults`, and the others have what they had. The
--- room: an image takes two bytes and a row's bytes for each row, no row is longer than its table's longest, and with every table at
--- its limit that is the whole store; so it is with the rows exchanged. Assumes nothing.
+-- A sound store with a row of a table exchanged at a key's place is sound again.
+-- Soundness as facts by table (`SoundStore`): the table that is exchanged has them by `Faults`, and the others have what they had.
+-- So it is for a whole row put, where it is held or the table has room for one more, and for a row removed. Assumes nothing.
 use mathlib.Core.Path.{_≡_, refl, sym, ap, subst, _∙_}
 use mathlib.Core.Bool.{true, false, _&&_}
 use mathlib.Core.List.{List, [], _∷_}
 use mathlib.Core.Option.{none}
-use Prim.Native.Nat.{ℕ, zero, suc, _+_, _-_, _*_, _≤_, _<_}
-use native.Mathlib.Nat.{mul-le-mul-right}
+use Prim.Native.Nat.{ℕ, zero, suc, _+_, _≤_, _<_}
 use native.Mathlib.Omega.{arith}
 use lib.Dec.{eqb, leb}
-use lib.ListN.{length, take, drop, length-append}
+use lib.ListN.{length, take}
 use lib.Seq.{take-nil}
 use borrow.Author.Tests.{eq-eqb, ne-eqb, eqb-true, le-leb, leb-true}
 use Rattle.lists.specs.Order.{before}
@@ -20,24 +18,19 @@ use Rattle.rows.specs.declared.Table.{Table}
 use Rattle.rows.specs.declared.Table.the-variants.{Context, Mapping, Access, View}
 use Rattle.rows.specs.Fields.{faults, span}
 use Rattle.rows.specs.Rows.{keyFields, rowFields, limit}
-use Rattle.rows.proofs.Bounds.{longestRow}
 use Rattle.rows.proofs.Inverse.{Bytes}
 use Rattle.image.specs.declared.Extent.{Extent}
-use Rattle.image.specs.Layout.{pairs, total, rowsIn, endOf, count, withinLimits, layoutOf, laidOut}
+use Rattle.image.specs.Layout.{Inside, rowsIn, count, withinLimits, layoutOf, laidOut}
 use Rattle.image.specs.Image.{tableFault, rowsFault, indexOf}
 use Rattle.image.specs.Store.{room, soundRows, isSound}
 use Rattle.image.proofs.Keys.{stands-nil}
-use Rattle.image.proofs.Layouts.{total-pairs}
 use Rattle.image.proofs.Sound.{ascends-rows}
 use Rattle.image.proofs.Surveys.{sound-layout}
-use Rattle.exchange.specs.Exchange.{extentOf, position, tableRows, number, rowsBefore, isHeld, imageEnd, ImageIn, Sought, exchanged, oneRow, Exchanges}
+use Rattle.exchange.specs.Exchange.{extentOf, position, tableRows, number, rowsBefore, isHeld, imageEnd, Sought, exchanged, oneRow, Exchanges}
 use Rattle.exchange.specs.declared.Place.{Place}
-use Rattle.exchange.proofs.Written.{joined, joined-append}
-use Rattle.exchange.proofs.Splits.{length-rows}
-use Rattle.exchange.proofs.Images.{tables-end}
-use Rattle.exchange.proofs.Exchanges.{Asked, gone-bytes}
+use Rattle.exchange.proofs.Splits.{length-rows, table-inside}
 use Rattle.exchange.proofs.Keys.{KeyOf, Whole, whole-rows, key-of-row, key-of-key}
-use Rattle.exchange.proofs.Faults.{Comes, nothing, whole, index-some, fault-exchanged, rows-bounded, place-fits, exchanged-length, exchanged-bytes}
+use Rattle.exchange.proofs.Faults.{Comes, nothing, whole, index-some, fault-exchanged, place-fits, exchanged-length}
 
 -- ---- soundness by table
 
@@ -47,10 +40,16 @@ pub record SoundStore (w : List ℕ) : Type 0 where
   pub end-in : imageEnd w ≤ length w
   pub rows-sound : (t : Table) → tableFault t [] (tableRows t w) ≡ none
 
-abbrev countOf : Table → List ℕ → ℕ
+limit-most : (t : Table) → limit t ≤ 240
+limit-most Context = omega arith
+limit-most Mapping = omega arith
+limit-most Access = omega arith
+limit-most View = omega arith
+
+abbrev pub countOf : Table → List ℕ → ℕ
 countOf t w = count (position t) w
 
-length-table : (t : Table) (w : List ℕ) → length (tableRows t w) ≡ countOf t w
+pub length-table : (t : Table) (w : List ℕ) → length (tableRows t w) ≡ countOf t w
 unfolding layoutOf laidOut
 length-table Context w = length-rows w (extentOf Context (layoutOf w))
 length-table Mapping w = length-rows w (extentOf Mapping (layoutOf w))
@@ -86,7 +85,7 @@ module _ (w : List ℕ) (h : isSound w ≡ true) where
       let b = and-right (withinLimits (count 0 w) (count 1 w) (count 2 w) (count 3 w)) _ a in
       (eqb-true (length w) room (and-left _ _ h), and-left _ _ a, leb-true (imageEnd w) (length w) (and-left _ _ b))
 
-  limits : (count 0 w ≤ 16) × (count 1 w ≤ 64) × (count 2 w ≤ 64) × (count 3 w ≤ 96)
+  pub limits : (count 0 w ≤ 16) × (count 1 w ≤ 64) × (count 2 w ≤ 64) × (count 3 w ≤ 96)
   limits = limits-within (count 0 w) (count 1 w) (count 2 w) (count 3 w) (tests .1)
 
   few-rows : (t : Table) → length (tableRows t w) ≤ limit t
@@ -104,7 +103,12 @@ module _ (w : List ℕ) (h : isSound w ≡ true) where
   pub store-sound : SoundStore w
   store-sound = record { size-is = tests .0; few = few-rows; end-in = tests .2; rows-sound = sound-table }
 
--- each row of a table is whole, and the indices ascend
+-- each table lies within the store, its rows are few and whole, and their indices ascend
+pub sound-inside : (t : Table) (w : List ℕ) → isSound w ≡ true → Inside w (extentOf t (layoutOf w)) × (extentOf t (layoutOf w) .count ≤ 240)
+sound-inside t w h =
+    let l = limit-most t in
+    (table-inside t w (tests w h .2), omega (arith, few-rows w h t, length-rows w (extentOf t (layoutOf w))))
+
 pub sound-whole : (t : Table) (w : List ℕ) → isSound w ≡ true → Bytes w → Whole t (tableRows t w)
 sound-whole t w h b = whole-rows t w (extentOf t (layoutOf w)) b (sound-table w h t)
 
@@ -148,94 +152,20 @@ module _ (t : Table) (w key v : List ℕ) (new : List (List ℕ)) (b : Bytes w) 
   abbrev had : ℕ
   had = number (isHeld key rows)
 
-  changed-sound : tableFault t [] (exchanged (rowsBefore key rows) had new rows) ≡ none
+  pub changed-sound : tableFault t [] (exchanged (rowsBefore key rows) had new rows) ≡ none
   changed-sound = fault-exchanged t k c [] rows (whole-rows t w (extentOf t (layoutOf w)) b (s .rows-sound t)) (index-some t v) (s .rows-sound t)
 
   module _ (f : length rows + length new ≤ limit t + had) where
-    changed-few : length (exchanged (rowsBefore key rows) had new rows) ≤ limit t
+    pub changed-few : length (exchanged (rowsBefore key rows) had new rows) ≤ limit t
     changed-few = omega (arith, exchanged-length (rowsBefore key rows) had new rows (place-fits key rows))
 
-    sound-after : (after : List ℕ) → Exchanges t (rowsBefore key rows) had new w after → isSound after ≡ true
-    sound-after after e = sound-store after (record {
+    pub sound-exchanged : (after : List ℕ) → Exchanges t (rowsBefore key rows) had new w after → isSound after ≡ true
+    sound-exchanged after e = sound-store after (record {
       size-is = e .size-is ∙ s .size-is;
       few = each-table (λ u rs. length rs ≤ limit u) e changed-few (s .few);
       end-in = e .end-in;
       rows-sound = each-table (λ u rs. tableFault u [] rs ≡ none) e changed-sound (s .rows-sound);
     })
-
--- ---- the room
-
-four-bytes : (a b c d : List (List ℕ)) → length (joined (joined (a ∷ b ∷ c ∷ d ∷ []))) ≡ length (joined a) + length (joined b) + length (joined c) + length (joined d)
-four-bytes a b c d = simp (joined-append, length-append) (omega arith)
-
--- the bytes of each table's rows
-abbrev bytesOf : List ℕ → Table → ℕ
-bytesOf w t = length (joined (tableRows t w))
-
-abbrev sum : (Table → ℕ) → ℕ
-sum f = f Context + f Mapping + f Access + f View
-
-end-sum : (w : List ℕ) → imageEnd w ≤ length w → imageEnd w ≡ 8 + 2 * sum (λ t. length (tableRows t w)) + sum (bytesOf w)
-end-sum w h =
-    omega (
-      arith,
-      tables-end w h,
-      four-bytes (tableRows Context w) (tableRows Mapping w) (tableRows Access w) (tableRows View w),
-      length-table Context w,
-      length-table Mapping w,
-      length-table Access w,
-      length-table View w,
-    )
-
--- n rows of b bytes in each table; in table t, k more rows of `add` bytes for m rows of `gone` bytes
-module _ (n b : Table → ℕ) (p : (t : Table) → n t ≤ limit t) (q : (t : Table) → b t ≤ limit t * longestRow t) where
-  room-sum : (t : Table) (i j k m add gone : ℕ) → i ≤ limit t → j ≤ limit t * longestRow t → i + m ≡ n t + k → j + gone ≡ b t + add
-      → 8 + 2 * sum n + sum b + add + 2 * k ≤ room + gone + 2 * m
-  room-sum Context i j k m add gone x y e f = omega (arith, p Mapping, p Access, p View, q Mapping, q Access, q View)
-  room-sum Mapping i j k m add gone x y e f = omega (arith, p Context, p Access, p View, q Context, q Access, q View)
-  room-sum Access i j k m add gone x y e f = omega (arith, p Context, p Mapping, p View, q Context, q Mapping, q View)
-  room-sum View i j k m add gone x y e f = omega (arith, p Context, p Mapping, p Access, q Context, q Mapping, q Access)
-
-bytes-most : (t : Table) (rs : List (List ℕ)) → tableFault t [] rs ≡ none → length rs ≤ limit t → length (joined rs) ≤ limit t * longestRow t
-bytes-most t rs h l = omega (arith, rows-bounded t [] rs h, mul-le-mul-right (longestRow t) l)
-
-module _ (t : Table) (w key v : List ℕ) (new : List (List ℕ)) (b : Bytes w) (s : SoundStore w) (k : KeyOf t key (indexOf t v)) (c : Comes t (indexOf t v) new)
-    (f : length (tableRows t w) + length new ≤ limit t + number (isHeld key (tableRows t w))) where
-  room-after : let rs = tableRows t w in let n = number (isHeld key rs) in
-      imageEnd w + length (joined new) + 2 * length new ≤ length w + length (joined (take n (drop (rowsBefore key rs) rs))) + 2 * n
-  room-after =
-      let rs = tableRows t w in
-      let i = rowsBefore key rs in
-      let n = number (isHeld key rs) in
-      let few = changed-few t w key v new b s k c f in
-      let r = room-sum (λ u. length (tableRows u w)) (bytesOf w) (s .few) (λ u. bytes-most u (tableRows u w) (s .rows-sound u) (s .few u)) t
-      (length (exchanged i n new rs)) (length (joined (exchanged i n new rs))) (length new) n (length (joined new)) (length (joined (take n (drop i rs))))
-      few (bytes-most t (exchanged i n new rs) (changed-sound t w key v new b s k c) few)
-      (exchanged-length i n new rs (place-fits key rs)) (exchanged-bytes i n new rs) in
-      omega (arith, r, end-sum w (s .end-in), s .size-is)
-
--- ---- the end of the image, as the code finds it
-
-pub end-views : (w : List ℕ) → endOf w (layoutOf w .views) ≡ imageEnd w
-unfolding layoutOf laidOut
-end-views w =
-    let c = count 0 w in
-    let m = count 1 w in
-    let a = count 2 w in
-    let v = count 3 w in
-    let e : c + m + a + v ≡ c + (m + (a + v)) = omega arith in
-    omega (
-      arith,
-      ap (λ n. total (pairs n (drop 8 w))) e,
-      total-pairs w 8 c (m + (a + v)),
-      total-pairs w (8 + 2 * c) m (a + v),
-      total-pairs w (8 + 2 * c + 2 * m) a v,
-    )
-
-pub image-in : (w : List ℕ) → isSound w ≡ true → ImageIn w (endOf w (layoutOf w .views))
-image-in w h =
-    let l = limits w h in
-    record { few = omega arith; end-is = end-views w; end-in = omega (arith, end-views w, store-sound w h .end-in) }
 
 -- ---- what an exchange at a sought place says
 
@@ -264,26 +194,16 @@ one-row t (x ∷ row) b f = refl
 
 module _ (t : Table) (w row : List ℕ) (h : isSound w ≡ true) (b : Bytes w) (d : Bytes row) (f : faults (rowFields t) row ≡ none)
     (n : isHeld (rowKey t row) (tableRows t w) ≡ false → length (tableRows t w) < limit t) where
-  one-more : length (tableRows t w) + 1 ≤ limit t + number (isHeld (rowKey t row) (tableRows t w))
+  pub one-more : length (tableRows t w) + 1 ≤ limit t + number (isHeld (rowKey t row) (tableRows t w))
   one-more = split (isHeld (rowKey t row) (tableRows t w)) (λ e. rw e (omega (arith, store-sound w h .few t))) (λ e. rw e (omega (arith, n e)))
 
   pub sound-put : {after : List ℕ} → Exchanges t (rowsBefore (rowKey t row) (tableRows t w)) (number (isHeld (rowKey t row) (tableRows t w))) (row ∷ []) w after
       → isSound after ≡ true
-  sound-put {after} e = sound-after t w (rowKey t row) row (row ∷ []) b (store-sound w h) (key-of-row t row d f) (whole f refl) one-more after e
-
-  pub room-put : {p : Place} → Sought w (extentOf t (layoutOf w)) (rowKey t row) p
-      → imageEnd w + length row + 2 ≤ length w + (p .end - p .from) + 2 * number (p .held)
-  room-put {p} s =
-      let r = room-after t w (rowKey t row) row (row ∷ []) b (store-sound w h) (key-of-row t row d f) (whole f refl) one-more in
-      let a : Asked t w (extentOf t (layoutOf w)) p (endOf w (layoutOf w .views)) = record { bytes = b; image-in = image-in w h; extent-is = refl; place-in = s .place-in } in
-      omega (arith, rw (← s .row-is, ← s .held-is) at r, gone-bytes a, length-append row [])
+  sound-put {after} e = sound-exchanged t w (rowKey t row) row (row ∷ []) b (store-sound w h) (key-of-row t row d f) (whole f refl) one-more after e
 
 -- ---- a row removed
 
 pub sound-removed : (t : Table) (w key : List ℕ) → isSound w ≡ true → Bytes w → Bytes key → faults (keyFields t) key ≡ none → {after : List ℕ}
     → Exchanges t (rowsBefore key (tableRows t w)) (number (isHeld key (tableRows t w))) [] w after → isSound after ≡ true
 sound-removed t w key h b d f {after} e =
-    sound-after t w key key [] b (store-sound w h) (key-of-key t key d f) nothing (omega (arith, store-sound w h .few t)) after e
-
-pub room-removed : (w : List ℕ) (p : Place) → isSound w ≡ true → p .held ≡ true → imageEnd w + 2 ≤ length w + (p .end - p .from) + 2 * number (p .held)
-room-removed w p h e = rw e (omega (arith, store-sound w h .end-in))
+    sound-exchanged t w key key [] b (store-sound w h) (key-of-key t key d f) nothing (omega (arith, store-sound w h .few t)) after e

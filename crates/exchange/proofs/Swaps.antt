@@ -57,12 +57,17 @@ module _ {w : List ℕ} {from gone place had end : ℕ} (s : Swap w from gone pl
   abbrev behind : List ℕ
   behind = heads (s .right) ++ (joined (s .left) ++ (joined new ++ joined (s .right)))
 
+  second : (v rest : List ℕ) → v ≡ (s .front ++ heads (s .left)) ++ (heads (s .out) ++ (behind ++ rest))
+      → (tail : List ℕ) × (spliced v place (2 * had) (end - gone + length (joined new)) (heads new) ≡ (s .front ++ heads (s .left)) ++ (heads new ++ (behind ++ tail)))
+  second v rest e =
+      spliced-app v place (2 * had) (end - gone + length (joined new)) (heads new) (s .front ++ heads (s .left)) (heads (s .out)) behind rest e
+      (simp (length-append, length-heads) (omega (arith, s .place-is))) (omega (arith, length-heads (s .out), s .had-is))
+      (simp (length-append, length-heads) (omega (arith, s .place-is, s .had-is, s .from-is, s .end-is)))
+
+  both : (tail : List ℕ) × (spliced (spliced w from gone end (joined new)) place (2 * had) (end - gone + length (joined new)) (heads new)
+      ≡ (s .front ++ heads (s .left)) ++ (heads new ++ (behind ++ tail)))
+  both = second _ (first .0) (first .1 ∙ mixed (s .front) (s .left) (s .out) (s .right) new (first .0))
+
   pub swapped : (tail : List ℕ) × (spliced (spliced w from gone end (joined new)) place (2 * had) (end - gone + length (joined new)) (heads new)
       ≡ laid (s .front) (s .left ++ (new ++ s .right)) tail)
-  swapped =
-      let v = spliced w from gone end (joined new) in
-      let at : v ≡ (s .front ++ heads (s .left)) ++ (heads (s .out) ++ (behind ++ first .0)) = first .1 ∙ mixed (s .front) (s .left) (s .out) (s .right) new (first .0) in
-      let t = spliced-app v place (2 * had) (end - gone + length (joined new)) (heads new) (s .front ++ heads (s .left)) (heads (s .out)) behind (first .0) at
-      (simp (length-append, length-heads) (omega (arith, s .place-is))) (omega (arith, length-heads (s .out), s .had-is))
-      (simp (length-append, length-heads) (omega (arith, s .place-is, s .had-is, s .from-is, s .end-is))) in
-      (t .0, t .1 ∙ sym (laid-heads (s .front) (s .left) new (s .right) (t .0)))
+  swapped = (both .0, both .1 ∙ sym (laid-heads (s .front) (s .left) new (s .right) (both .0)))

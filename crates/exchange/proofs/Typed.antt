@@ -72,6 +72,11 @@ module _ (t : Table) {R : Type 0} (of : List ℕ → R) (indexR : R → List ℕ
   remove-rows [] a h = clash h refl
   remove-rows (r ∷ rs) a h = remove-step of indexR rs (stand r (a .0) (a .1)) h (remove-rows rs (a .2))
 
+  -- the same, with as many rows gone as are held
+  pub removed-rows : (rs : List (List ℕ)) → Whole t rs → isHeld key rs ≡ true
+      → map of (exchanged (rowsBefore key rs) (number (isHeld key rs)) [] rs) ≡ removeRow indexR i (map of rs)
+  removed-rows rs a h = ap (λ b. map of (exchanged (rowsBefore key rs) (number b) [] rs)) h ∙ remove-rows rs a h
+
   none-under : (rs : List (List ℕ)) → Under (indexOf t) i rs → find (λ x. same i (indexR x)) (map of rs) ≡ none
   none-under [] u = refl
   none-under (r ∷ rs) u = rw (e r, before-not-same i (indexOf t r) (u .0)) (none-under rs (u .1))

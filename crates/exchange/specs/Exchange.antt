@@ -13,7 +13,7 @@ use Rattle.image.specs.declared.Layout.{Layout}
 use Rattle.image.specs.Layout.{total, lengthsIn, rowsIn, endOf, layoutOf, count, called}
 use Rattle.exchange.specs.declared.Place.{Place}
 
--- where a table lies in a layout, and its rows' bytes
+-- where a table lies in a layout
 abbrev pub extentOf : Table → Layout → Extent
 extentOf Context l = l .contexts
 extentOf Mapping l = l .mappings
@@ -33,9 +33,11 @@ countAt Mapping = 3
 countAt Access = 5
 countAt View = 7
 
+-- its rows in the image at the front of w
 abbrev pub tableRows : Table → List ℕ → List (List ℕ)
 tableRows t w = rowsIn w (extentOf t (layoutOf w))
 
+-- how many rows: one where a test holds
 abbrev pub number : Bool → ℕ
 number true = 1
 number false = 0
@@ -95,6 +97,7 @@ oneRow (x ∷ row) = (x ∷ row) ∷ []
 abbrev pub exchangedIn : Table → Table → ℕ → ℕ → List (List ℕ) → List (List ℕ) → List (List ℕ)
 exchangedIn t u i gone new rs = cond (eqb (position t) (position u)) (exchanged i gone new rs) rs
 
+-- and the image still lies within bytes that are as many as before
 pub record Exchanges (t : Table) (i gone : ℕ) (new : List (List ℕ)) (found after : List ℕ) : Type 0 where
   pub rows-are : (u : Table) → tableRows u after ≡ exchangedIn t u i gone new (tableRows u found)
   pub size-is : length after ≡ length found

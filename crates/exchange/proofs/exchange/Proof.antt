@@ -24,6 +24,7 @@ there : (c : tie.After-struct-known) → let s = c .before .before .before .args
     Swap (s .w .now) (s .p .from) (s .p .end - s .p .from) (s .x .lengths + 2 * s .p .row) (number (s .p .held)) (s .end)
 there c = swap (asked c)
 
+-- the same place, from later ones
 abbrev at2 : tie.After-struct-known2 → tie.After-struct-known
 at2 c = c .before .before .before .before .before
 
@@ -60,10 +61,10 @@ splice-requires : tie.Need-splice-requires
 splice-requires c κs = let h = there (c .before) in omega (arith, number-most (c .before .before .before .before .args .p .held))
 
 mul-place : tie.Need-mul-place
-mul-place c = let h = there (at2 c) in omega (arith, (at2 c) .before .before .before .fits .end)
+mul-place c = let h = there (at2 c) in omega (arith, at2 c .before .before .before .fits .end)
 
 add-place : tie.Need-add-place
-add-place c = let h = there (at2 (c .before)) in omega (arith, (at2 (c .before)) .before .before .before .fits .end)
+add-place c = let h = there (at2 (c .before)) in omega (arith, at2 (c .before) .before .before .before .fits .end)
 
 sub-stop : tie.Need-sub-stop
 sub-stop c = let h = there (at2 (c .before)) in omega arith
