@@ -75,7 +75,7 @@ abbrev pub value : Field → List ℕ → List ℕ
 value (sequence w lo hi) v = numbers w (getD v 0 0) (drop 1 v)
 value (integer w lo hi) v = number w v ∷ []
 
--- a number for the first fault of two
+-- the first fault of two
 abbrev pub orElse : Option Fault → Option Fault → Option Fault
 orElse none g = g
 orElse (some f) g = some f
