@@ -8,6 +8,8 @@ use Rattle.answers.specs.declared.Fault.{Fault}
 use Rattle.answers.specs.declared.Fault.the-variants.{NotSound, OutOfRange, TableFull, RowAbsent, StorageForbids, ContextTable, NotAnInstance, Torn, NotAscending, TooShort}
 use Rattle.answers.specs.declared.Answer.{Answer}
 use Rattle.answers.specs.declared.Answer.the-variants.{Decided, Faulty}
+use Rattle.answers.specs.declared.Written.{Written}
+use Rattle.answers.specs.declared.Written.the-variants.{Length, Unwritten}
 
 -- the five causes of RFC 3415, section 3.2
 abbrev pub causeNumber : Cause → ℕ
@@ -37,3 +39,8 @@ faultNumber TooShort = 16
 abbrev pub answerNumber : Answer → ℕ
 answerNumber (Decided d) = decisionNumber d
 answerNumber (Faulty f) = faultNumber f
+
+-- a writer's success is 0, and carries the length
+abbrev pub writtenNumber : Written → ℕ
+writtenNumber (Length n) = 0
+writtenNumber (Unwritten f) = faultNumber f

@@ -1,6 +1,6 @@
 // What a call hands back, and document 01's number for each case.
 ghost use mathlib.Core.Path.{_≡_};
-ghost use Rattle.answers.specs.Numbers.{causeNumber, decisionNumber, faultNumber, answerNumber};
+ghost use Rattle.answers.specs.Numbers.{causeNumber, decisionNumber, faultNumber, answerNumber, writtenNumber};
 
 // Why a decision refuses: RFC 3415's errorIndication.
 pub enum Cause {
@@ -34,6 +34,12 @@ pub enum Fault {
 pub enum Answer {
     Decided(Decision),
     Faulty(Fault),
+}
+
+// The answer of a call that writes into a lent buffer: how many elements it has written, or why none.
+pub enum Written {
+    Length(usize),
+    Unwritten(Fault),
 }
 
 pub fn cause_number(c: Cause) -> u32
@@ -80,5 +86,14 @@ pub fn answer_number(a: Answer) -> u32
     match a {
         Answer::Decided(d) => decision_number(d),
         Answer::Faulty(f) => fault_number(f),
+    }
+}
+
+pub fn written_number(w: Written) -> u32
+    ensures { λ r. ⌜ r ≡ writtenNumber w ⌝ }
+{
+    match w {
+        Written::Length(_) => 0,
+        Written::Unwritten(f) => fault_number(f),
     }
 }

@@ -12,7 +12,7 @@ use lib.ListN.{length, drop}
 use lib.Dec.{ltb}
 use borrow.Author.Tests.{lt-ltb, le-ltb}
 use Rattle.answers.specs.declared.Fault.{Fault}
-use Rattle.lists.specs.Lists.{keep, every, any, OnSome}
+use Rattle.lists.specs.Lists.{keep, every, any, OnSome, isNone}
 use Rattle.lists.specs.Scans.{latest, better, best}
 use Rattle.lists.proofs.Bools.{or-right}
 use Rattle.lists.proofs.Keeps.{every-imp, every-map}
@@ -23,7 +23,6 @@ use Rattle.rows.specs.Rows.{AccessRow, ViewRow, rowFields, accessOf, viewOf}
 use Rattle.image.specs.declared.Extent.{Extent}
 use Rattle.image.specs.Layout.{pair, rowsIn}
 use Rattle.image.specs.Image.{tableFault, SoundTable}
-use Rattle.image.specs.Store.{isNone}
 use Rattle.image.proofs.Walks.{piece}
 use Rattle.image.proofs.Sound.{every-whole, ascends-rows}
 use Rattle.procedure.specs.declared.Sighting.{Sighting}

@@ -249,7 +249,7 @@ pub fn decide(
 
 // ---- the call
 
-fn in_range(
+pub fn in_range(
     model: u32,
     name: usize,
     level: u32,
@@ -269,7 +269,7 @@ fn in_range(
 }
 
 // The parts of an identifier, each in 4 bytes, big-endian.
-fn spell(parts: &[u32], out: &mut [u8; 512])
+pub fn spell(parts: &[u32], out: &mut [u8; 512])
     requires { ⌜ (length (now parts) ≤ 128) × (length (now out) ≡ 512) ⌝ }
     ensures { λ _. ⌜ take (4 * length (now (parts .entry))) (now (out .exit)) ≡ bytesOf word (now (parts .entry)) ⌝ }
 {

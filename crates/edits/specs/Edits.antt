@@ -14,7 +14,7 @@ use Rattle.rows.specs.declared.Table.the-variants.{Context, Mapping, Access, Vi
 use Rattle.rows.specs.Fields.{faults, values, index, within}
 use Rattle.rows.specs.Rows.{ContextRow, MappingRow, AccessRow, ViewRow, keyFields, rowFields, limit, contextKey, mappingKey, accessKey, viewKey, contextFields, mappingFields, accessFields, viewFields, contextOf, mappingOf, accessOf, viewOf}
 use Rattle.rows.specs.Tables.{Tables}
-use Rattle.image.specs.Store.{isNone}
+use Rattle.lists.specs.Lists.{isNone}
 use Rattle.procedure.specs.Request.{asked}
 use Rattle.procedure.specs.Decision.{decision}
 use Rattle.edits.specs.declared.Edited.{Edited}

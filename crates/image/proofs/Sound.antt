@@ -8,7 +8,7 @@ use mathlib.Core.Option.{Option, none, some}
 use Prim.Native.Nat.{ℕ}
 use Rattle.answers.specs.declared.Fault.{Fault}
 use Rattle.answers.specs.declared.Fault.the-variants.{NotAscending}
-use Rattle.lists.specs.Lists.{every}
+use Rattle.lists.specs.Lists.{every, isNone}
 use Rattle.lists.specs.Order.{before}
 use Rattle.lists.proofs.Bools.{and-both}
 use Rattle.lists.proofs.Greatest.{Under, Ascends, under-trans}
@@ -20,7 +20,6 @@ use Rattle.rows.specs.Rows.{rowFields}
 use Rattle.rows.specs.Judging.{reached}
 use Rattle.rows.proofs.Sound.{cond-none}
 use Rattle.image.specs.Image.{indexOf, tableFault}
-use Rattle.image.specs.Store.{isNone}
 
 -- ---- answers read back
 

@@ -19,7 +19,8 @@ use Rattle.image.specs.declared.Surveyed.{Surveyed}
 use Rattle.image.specs.declared.Surveyed.the-variants.{Bad}
 use Rattle.image.specs.Layout.{count, called, withinLimits, header, laidOut, layoutOf}
 use Rattle.image.specs.Image.{rowsFault, sizedFault, imageFault, SoundLayout, surveyed, soundly}
-use Rattle.image.specs.Store.{room, isNone, soundRows, isSound, storeFault}
+use Rattle.lists.specs.Lists.{isNone}
+use Rattle.image.specs.Store.{room, soundRows, isSound, storeFault}
 use Rattle.image.proofs.Layouts.{laid-within, sound-tables}
 
 -- ---- answers

@@ -8,6 +8,7 @@ use lib.Dec.{eqb, leb}
 use lib.ListN.{length}
 use Rattle.answers.specs.declared.Fault.{Fault}
 use Rattle.answers.specs.declared.Fault.the-variants.{NotSound}
+use Rattle.lists.specs.Lists.{isNone}
 use Rattle.rows.specs.Tables.{Tables}
 use Rattle.image.specs.Layout.{count, called, withinLimits, laidOut}
 use Rattle.image.specs.Image.{rowsFault, tablesIn}
@@ -15,10 +16,6 @@ use Rattle.image.specs.Image.{rowsFault, tablesIn}
 -- the largest image: 46,456 bytes
 abbrev pub room : ℕ
 room = 46456
-
-abbrev pub isNone : Option Fault → Bool
-isNone none = true
-isNone (some f) = false
 
 -- each count within its limit, the rows within the room, each held field legal, each table ascending
 unfoldable pub soundRows : List ℕ → ℕ → ℕ → ℕ → ℕ → Bool
