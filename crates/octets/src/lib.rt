@@ -48,7 +48,7 @@ fn skip_long(a: &[u8], b: &[u8], n: usize) -> usize
 }
 
 // The same, then 8 a turn.
-fn skip(a: &[u8], b: &[u8], n: usize) -> usize
+pub fn skip(a: &[u8], b: &[u8], n: usize) -> usize
     requires { ⌜ n ≤ length (now a) ⌝ }
     requires { ⌜ n ≤ length (now b) ⌝ }
     ensures { λ r. ⌜ (r ≤ n) × (take r (now (a .entry)) ≡ take r (now (b .entry))) ⌝ }

@@ -1,6 +1,7 @@
 -- Laws of `identifier`, the numbers that bytes say four by four, and of `agrees`, which compares two identifiers number by number.
 -- Bytes behind those counted make no difference; the first four bytes say the first number, and the rest the others.
--- A subtree agrees with no variable that is shorter, and otherwise as its first number does and the rest do. Assumes nothing.
+-- A subtree agrees with no variable that is shorter, and otherwise as its first number does and the rest do; where bytes in front are the same,
+-- as what follows their numbers does. Assumes nothing.
 use mathlib.Core.Path.{_≡_, refl, sym, ap, ap₂, _∙_}
 use mathlib.Core.Bool.{true, false, not, _&&_, _||_}
 use mathlib.Core.List.{List, [], _∷_, _++_}
@@ -9,7 +10,7 @@ use native.Mathlib.Numerals.{add-one}
 use native.Mathlib.Omega.{arith}
 use lib.Dec.{eqb}
 use lib.ListN.{length, take, drop, getD, length-drop, take-append-drop}
-use lib.Seq.{length-take-le, drop-drop}
+use lib.Seq.{length-take-le, drop-drop, getD-take}
 use borrow.Author.Tests.{eqb-true, eq-eqb}
 use Rattle.lists.proofs.Bools.{test-ext, and-left, and-right, and-both, and-false-right, or-right}
 use Rattle.rows.specs.Fields.{word, number, numbers}
@@ -111,3 +112,25 @@ module _ (mask s v : List ℕ) (i k : ℕ) where
         → agrees mask i (identifier (drop k s)) (identifier (drop k v)) ≡ false
     unfolding agrees
     agrees-differ e b = rw (identifier-next k s hs, identifier-next k v hv, e, b)
+
+-- numbers in front whose bytes are the same
+module _ (mask s v : List ℕ) where
+  number-same : (k : ℕ) → ((j : ℕ) → j < k + 4 → getD s j 0 ≡ getD v j 0) → eqb (number word (drop k s)) (number word (drop k v)) ≡ true
+  number-same k h =
+      eq-eqb _ _ (word-front s k ∙ rw (h k (omega arith), h (k + 1) (omega arith), h (k + 2) (omega arith), h (k + 3) (omega arith)) (sym (word-front v k)))
+
+  agrees-front : (i : ℕ) → 4 * i ≤ length s → 4 * i ≤ length v → ((j : ℕ) → j < 4 * i → getD s j 0 ≡ getD v j 0)
+      → agrees mask 0 (identifier s) (identifier v) ≡ agrees mask i (identifier (drop (4 * i) s)) (identifier (drop (4 * i) v))
+  agrees-front zero hs hv h = refl
+  agrees-front (suc i) hs hv h =
+      let e : 4 * suc i ≡ 4 * i + 4 = omega arith in
+      agrees-front i (omega arith) (omega arith) (λ j l. h j (omega arith))
+      ∙ agrees-same mask s v i (4 * i) (omega arith) (omega arith) (number-same (4 * i) (λ j l. h j (omega arith)))
+      ∙ rw (e, add-one)
+
+  -- of bytes in front that are the same, as many fours as there are
+  pub agrees-skip : (r : ℕ) → r ≤ length s → r ≤ length v → take r s ≡ take r v
+      → agrees mask 0 (identifier s) (identifier v) ≡ agrees mask (r / 4) (identifier (drop (4 * (r / 4)) s)) (identifier (drop (4 * (r / 4)) v))
+  agrees-skip r hs hv t =
+      agrees-front (r / 4) (omega arith) (omega arith)
+      (λ j l. let b : j < r = omega arith in sym (getD-take r s j 0 b) ∙ ap (λ u. getD u j 0) t ∙ getD-take r v j 0 b)

@@ -1,6 +1,6 @@
 -- `procedure::is_below` meets its contract. The loop's invariant speaks of what is left: `k` is 4 * `i`, and the subtree agrees with the variable
--- as what is left of the two from `k` on does from bit `i` on. A turn passes one number; at the end nothing is left of the subtree.
--- The measure is what is left of its length. Assumes nothing.
+-- as what is left of the two from `k` on does from bit `i` on. It holds of the bytes that `skip` found the same; a turn passes one number; at the end
+-- nothing is left of the subtree. The measure is what is left of its length. Assumes nothing.
 use mathlib.Core.Path.{_≡_, refl, sym, _∙_}
 use mathlib.Core.Logic.{⊎-elim}
 use Prim.Native.Nat.{_-_, _*_}
@@ -10,7 +10,7 @@ use borrow.Author.Needs.{needs}
 use borrow.Author.Tests.{not-true, not-false}
 use Rattle.procedure.specs.Decision.{agrees}
 use Rattle.procedure.specs.Bytes.{identifier}
-use Rattle.procedure.proofs.Identifiers.{length-identifier, agrees-short, agrees-end, agrees-same, agrees-masked, agrees-differ}
+use Rattle.procedure.proofs.Identifiers.{length-identifier, agrees-short, agrees-end, agrees-same, agrees-masked, agrees-differ, agrees-skip}
 use Rattle.procedure.proofs.is_below.Statement.{statement}
 use Rattle.procedure.proofs.is_below.Tie as tie
 
@@ -26,8 +26,16 @@ returns c =
     let s = c .before .before .before .before in
     sym (agrees-short _ 0 _ _ (omega (arith, length-identifier (s .args .subtree .now), length-identifier (s .args .variable .now))))
 
+skip-requires : tie.Need-skip-requires Inv-loop μ-loop
+skip-requires c κs = search needs
+
+mul-k : tie.Need-mul-k Inv-loop μ-loop
+mul-k c = omega arith
+
 loop-holds : tie.Need-loop-holds Inv-loop μ-loop
-loop-holds c = (refl, refl)
+loop-holds c =
+    let f = c .skip in
+    (refl, agrees-skip _ _ _ (f .result) (omega arith) (omega arith) (f .ensures .1))
 
 same-word-requires : tie.Need-same-word-requires Inv-loop μ-loop
 same-word-requires c κs = search needs
@@ -73,6 +81,8 @@ is-below-spec =
     Inv-loop
     μ-loop
     returns
+    skip-requires
+    mul-k
     loop-holds
     same-word-requires
     mask-bit-requires
