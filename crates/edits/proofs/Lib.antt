@@ -1,2 +1,5 @@
 pub mod Outcomes
+pub mod Storages
 pub mod Stores
+pub mod Judgements
+pub mod Principals

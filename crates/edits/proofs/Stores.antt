@@ -12,7 +12,7 @@ use lib.Dec.{leb}
 use lib.ListN.{length, take}
 use borrow.Author.Tests.{leb-true, leb-false}
 use Rattle.answers.specs.declared.Fault.{Fault}
-use Rattle.answers.specs.declared.Fault.the-variants.{NotSound, OutOfRange, TableFull, RowAbsent}
+use Rattle.answers.specs.declared.Fault.the-variants.{NotSound, OutOfRange, TableFull, RowAbsent, StorageForbids}
 use Rattle.lists.proofs.Bools.{cond-true, cond-false}
 use Rattle.rows.specs.declared.Table.{Table}
 use Rattle.rows.specs.declared.Table.the-variants.{Context, Mapping, Access, View}
@@ -24,7 +24,7 @@ use Rattle.image.specs.declared.Layout.{Layout}
 use Rattle.image.specs.declared.Surveyed.the-variants.{Laid, Bad}
 use Rattle.image.specs.declared.Extent.{Extent}
 use Rattle.image.specs.Layout.{Inside, endOf, layoutOf}
-use Rattle.image.specs.Image.{tablesAt, surveyed}
+use Rattle.image.specs.Image.{SoundLayout, tablesAt, surveyed}
 use Rattle.image.specs.Store.{isSound, storeFault, held}
 use Rattle.image.proofs.Surveys.{sound-layout}
 use Rattle.exchange.specs.declared.Place.{Place}
@@ -34,9 +34,11 @@ use Rattle.exchange.proofs.Stores.{rowKey, store-sound, sound-whole, sound-asce
 use Rattle.exchange.proofs.Rooms.{image-in, room-for, room-removed}
 use Rattle.edits.specs.declared.Edited.{Edited}
 use Rattle.edits.specs.declared.Edited.the-variants.{Done, Faulty}
-use Rattle.edits.specs.Edits.{Edit, Outcome, put, remove, edit, legalEdit, refused, ownerEdit}
+use Rattle.edits.specs.Edits.{Edit, Outcome, put, remove, mayPut, edit, legalEdit, refused, ownerEdit, isContext}
+use Rattle.edits.specs.Storage.{storageIn, StorageIn, storageAt, mayTake}
 use Rattle.edits.specs.Calls.{answered, left, Edits, OwnerEdits}
 use Rattle.edits.proofs.Outcomes.{outcome, tables, tables-ext, edit-put, edit-full, edit-removed, edit-absent}
+use Rattle.edits.proofs.Storages.{storage-room, storage-at, held-storage, edit-put-strict, edit-remove-strict}
 
 -- ---- the survey's answer
 
@@ -72,6 +74,9 @@ module _ {w : List ℕ} {l : Layout} (h : isSound w ≡ true) (q : l ≡ layoutO
   pub views-laid : Inside w (l .views) × (l .views .count ≤ 240)
   views-laid = rw q (table-inside View w h, omega (arith, length-rows w (layoutOf w .views), store-sound w h .few View))
 
+  pub sound-laid : SoundLayout w l
+  sound-laid = rw q (sound-layout w h)
+
   pub image-laid : {end : ℕ} → end ≡ endOf w (l .views) → ImageIn w end
   image-laid e = rw (e ∙ ap (λ k. endOf w (k .views)) q) (image-in w h)
 
@@ -96,7 +101,7 @@ module _ (t : Table) (w : List ℕ) {l : Layout} {x : Extent} {b : Bool} (q : l 
 
 -- ---- the promise
 
-abbrev rowsOf : List ℕ → Table → List (List ℕ)
+abbrev pub rowsOf : List ℕ → Table → List (List ℕ)
 rowsOf w t = tableRows t w
 
 held-sound : (w : List ℕ) → isSound w ≡ true → held w ≡ some (tables (rowsOf w))
@@ -123,6 +128,16 @@ module _ (f : Tables → Outcome Tables) (w : List ℕ) (h : isSound w ≡ true)
 
   pub edits-refused : (r : Edited) → f (tables (rowsOf w)) ≡ outcome r (tables (rowsOf w)) → Edits f w w r
   edits-refused r e = edits-made w r h e (λ n. refl)
+
+  -- by another edit that does the same to these tables
+  pub edits-same : (g : Tables → Outcome Tables) → f (tables (rowsOf w)) ≡ g (tables (rowsOf w)) → {after : List ℕ} {r : Edited} → Edits g w after r → Edits f w after r
+  edits-same g e k =
+      let q = held-sound w h in
+      record {
+        answer-is = k .answer-is ∙ ap (answered g) q ∙ sym (ap (answered f) q ∙ ap (λ o. o .answer) e);
+        rows-are = k .rows-are ∙ ap (left g) q ∙ sym (ap (left f) q ∙ ap (λ o. some (o .rows)) e);
+        refusal-keeps = k .refusal-keeps;
+      }
 
   edits-done : (after : List ℕ) → isSound after ≡ true → f (tables (rowsOf w)) ≡ outcome Done (tables (rowsOf after)) → Edits f w after Done
   edits-done after g e = edits-made after Done g e (λ n. absurd (n refl))
@@ -157,6 +172,22 @@ module _ (t : Table) (w : List ℕ) (h : isSound w ≡ true) (b : Bytes w) where
         (edit-full (rowsOf w) (λ u. sound-whole u w h b) (λ u. sound-ascends u w h) t row d f (sym (s .held-is) ∙ n)
         (omega (arith, length-rows w (extentOf t (layoutOf w)))))
 
+    -- by a principal: the same, unless the storage forbids
+    module _ (n : isContext t ≡ false) where
+      put-strict : edit true (tables (rowsOf w)) (put t row)
+          ≡ cond (mayPut (storageAt w p) (storageIn row)) (edit false (tables (rowsOf w)) (put t row)) (outcome (Faulty StorageForbids) (tables (rowsOf w)))
+      put-strict = rw (storage-at s) (edit-put-strict (rowsOf w) (λ u. sound-whole u w h b) (λ u. sound-ascends u w h) t n row d f)
+
+      pub put-storage : (2 ≤ length row) × StorageIn w p
+      put-storage = (storage-room t n row f, held-storage s t n (table-inside t w h) (sound-whole t w h b))
+
+      pub put-forbidden : mayPut (storageAt w p) (storageIn row) ≡ false → Edits (λ rows. edit true rows (put t row)) w w (Faulty StorageForbids)
+      put-forbidden m = edits-refused (λ rows. edit true rows (put t row)) w h (Faulty StorageForbids) (put-strict ∙ cond-false _ _ m)
+
+      pub put-permitted : mayPut (storageAt w p) (storageIn row) ≡ true → {after : List ℕ} {r : Edited} → Edits (λ rows. edit false rows (put t row)) w after r
+          → Edits (λ rows. edit true rows (put t row)) w after r
+      put-permitted m k = edits-same (λ rows. edit true rows (put t row)) w h (λ rows. edit false rows (put t row)) (put-strict ∙ cond-true _ _ m) k
+
   module _ (key : List ℕ) (d : Bytes key) (f : faults (keyFields t) key ≡ none) {p : Place} (s : Sought w (extentOf t (layoutOf w)) key p) where
     pub remove-asked : p .held ≡ true → {l : Layout} {x : Extent} {end : ℕ} → l ≡ layoutOf w → x ≡ extentOf t l → end ≡ endOf w (l .views)
         → (ImageIn w end × (x ≡ extentOf t (layoutOf w)) × PlaceIn w x p) × ((0 < 65536) × (end + 0 + 2 ≤ length w + (p .end - p .from) + 2 * number (p .held)))
@@ -177,6 +208,21 @@ module _ (t : Table) (w : List ℕ) (h : isSound w ≡ true) (b : Bytes w) where
     remove-absent n =
         edits-refused (λ rows. edit false rows (remove t key)) w h (Faulty RowAbsent)
         (edit-absent (rowsOf w) (λ u. sound-whole u w h b) (λ u. sound-ascends u w h) t key d f (sym (s .held-is) ∙ n))
+
+    module _ (n : isContext t ≡ false) where
+      remove-strict : edit true (tables (rowsOf w)) (remove t key)
+          ≡ cond (mayTake (storageAt w p)) (edit false (tables (rowsOf w)) (remove t key)) (outcome (Faulty StorageForbids) (tables (rowsOf w)))
+      remove-strict = rw (storage-at s) (edit-remove-strict (rowsOf w) (λ u. sound-whole u w h b) (λ u. sound-ascends u w h) t n key d f)
+
+      pub remove-storage : StorageIn w p
+      remove-storage = held-storage s t n (table-inside t w h) (sound-whole t w h b)
+
+      pub remove-forbidden : mayTake (storageAt w p) ≡ false → Edits (λ rows. edit true rows (remove t key)) w w (Faulty StorageForbids)
+      remove-forbidden m = edits-refused (λ rows. edit true rows (remove t key)) w h (Faulty StorageForbids) (remove-strict ∙ cond-false _ _ m)
+
+      pub remove-permitted : mayTake (storageAt w p) ≡ true → {after : List ℕ} {r : Edited} → Edits (λ rows. edit false rows (remove t key)) w after r
+          → Edits (λ rows. edit true rows (remove t key)) w after r
+      remove-permitted m k = edits-same (λ rows. edit true rows (remove t key)) w h (λ rows. edit false rows (remove t key)) (remove-strict ∙ cond-true _ _ m) k
 
 -- ---- the owner's edit is the edit, of what is legal
 

@@ -20,7 +20,7 @@ use Rattle.procedure.specs.Decision.{decision}
 use Rattle.edits.specs.declared.Edited.{Edited}
 use Rattle.edits.specs.declared.Edited.the-variants.{Done, Barred, Faulty}
 use Rattle.exchange.specs.Tables.{rowAt, putRow, removeRow}
-use Rattle.edits.specs.Instances.{instance, statusColumn}
+use Rattle.instance.specs.Instances.{instance, statusColumn}
 
 -- ---- indices of rows
 
@@ -175,6 +175,9 @@ pub record Caller : Type 0 where
   pub securityModel : ℕ
   pub securityName : List ℕ
   pub securityLevel : ℕ
+
+abbrev pub callerOf : ℕ → List ℕ → ℕ → Caller
+callerOf model name level = record { securityModel = model; securityName = name; securityLevel = level }
 
 unfoldable pub legalCaller : Caller → Bool
 legalCaller c = within 1 2147483647 (c .securityModel) && within 1 32 (length (c .securityName)) && within 1 3 (c .securityLevel)

@@ -1,3 +1,4 @@
-pub mod Instances
 pub mod Edits
+pub mod Storage
+pub mod Admission
 pub mod Calls

@@ -65,6 +65,13 @@ module _ (n b : Table → ℕ) (p : (t : Table) → n t ≤ limit t) (q : (t : T
 bytes-most : (t : Table) (rs : List (List ℕ)) → tableFault t [] rs ≡ none → length rs ≤ limit t → length (joined rs) ≤ limit t * longestRow t
 bytes-most t rs h l = omega (arith, rows-bounded t [] rs h, mul-le-mul-right (longestRow t) l)
 
+-- tables within their limits, of rows without fault, take no more than the room
+pub rows-room : (w : List ℕ) → imageEnd w ≤ length w → ((t : Table) → length (tableRows t w) ≤ limit t) → ((t : Table) → tableFault t [] (tableRows t w) ≡ none)
+    → imageEnd w ≤ room
+rows-room w h few s =
+    let b : (t : Table) → bytesOf w t ≤ limit t * longestRow t = λ t. bytes-most t (tableRows t w) (s t) (few t) in
+    omega (arith, end-sum w h, room-sum (λ t. length (tableRows t w)) (bytesOf w) few b Context _ _ 0 0 0 0 (few Context) (b Context) (omega arith) (omega arith))
+
 module _ (t : Table) (w key v : List ℕ) (new : List (List ℕ)) (b : Bytes w) (s : SoundStore w) (k : KeyOf t key (indexOf t v)) (c : Comes t (indexOf t v) new)
     (f : length (tableRows t w) + length new ≤ limit t + number (isHeld key (tableRows t w))) where
   room-after : let rs = tableRows t w in let n = number (isHeld key rs) in

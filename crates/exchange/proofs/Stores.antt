@@ -56,10 +56,10 @@ length-table Mapping w = length-rows w (extentOf Mapping (layoutOf w))
 length-table Access w = length-rows w (extentOf Access (layoutOf w))
 length-table View w = length-rows w (extentOf View (layoutOf w))
 
-within-limits : (c m a v : ℕ) → c ≤ 16 → m ≤ 64 → a ≤ 64 → v ≤ 96 → withinLimits c m a v ≡ true
+pub within-limits : (c m a v : ℕ) → c ≤ 16 → m ≤ 64 → a ≤ 64 → v ≤ 96 → withinLimits c m a v ≡ true
 within-limits c m a v p q r s = rw (le-leb c 16 p, le-leb m 64 q, le-leb a 64 r, le-leb v 96 s)
 
-limits-within : (c m a v : ℕ) → withinLimits c m a v ≡ true → (c ≤ 16) × (m ≤ 64) × (a ≤ 64) × (v ≤ 96)
+pub limits-within : (c m a v : ℕ) → withinLimits c m a v ≡ true → (c ≤ 16) × (m ≤ 64) × (a ≤ 64) × (v ≤ 96)
 limits-within c m a v h =
     let p = and-left (leb c 16 && leb m 64 && leb a 64) (leb v 96) h in
     let q = and-left (leb c 16 && leb m 64) (leb a 64) p in (

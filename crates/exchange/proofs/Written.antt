@@ -9,14 +9,11 @@ use lib.ListN.{length, take, drop, set, length-append, length-drop, length-map}
 use lib.Seq.{append-snoc, set-at, take-add, take-at, drop-at, drop-drop, length-take-le}
 use Rattle.rows.proofs.Inverse.{Bytes, bytes-drop}
 use Rattle.image.specs.Layout.{pair, pairs, total, cut}
+pub use Rattle.image.specs.Written.{words, joined, heads}
 
 -- ---- lists one behind the other
 
 module _ {A : Type 0} where
-  abbrev pub joined : List (List A) → List A
-  joined [] = []
-  joined (x ∷ xs) = x ++ joined xs
-
   pub joined-append : (a b : List (List A)) → joined (a ++ b) ≡ joined a ++ joined b
   joined-append [] b = refl
   joined-append (x ∷ a) b = rw (joined-append a b) (sym (append-assoc x (joined a) (joined b)))
@@ -34,10 +31,6 @@ module _ {A : Type 0} where
       ap₂ (λ u v. u ∷ v) p (joined-inj a b m q)
 
 -- ---- numbers of two bytes
-
-abbrev pub words : List ℕ → List ℕ
-words [] = []
-words (n ∷ ns) = n / 256 ∷ n % 256 ∷ words ns
 
 pub length-words : (ns : List ℕ) → length (words ns) ≡ 2 * length ns
 length-words [] = refl
@@ -67,9 +60,6 @@ words-pairs (suc n) v b h =
 
 -- the lengths of lists, so written
 module _ {A : Type 0} where
-  abbrev pub heads : List (List A) → List ℕ
-  heads rs = words (map length rs)
-
   pub heads-append : (a b : List (List A)) → heads (a ++ b) ≡ heads a ++ heads b
   heads-append [] b = refl
   heads-append (r ∷ a) b = ap (λ v. length r / 256 ∷ length r % 256 ∷ v) (heads-append a b)

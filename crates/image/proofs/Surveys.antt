@@ -16,7 +16,7 @@ use Rattle.lists.proofs.Bools.{and-left, and-right, and-false-left, and-false-r
 use Rattle.rows.proofs.Sound.{cond-none}
 use Rattle.image.specs.declared.Layout.{Layout}
 use Rattle.image.specs.declared.Surveyed.{Surveyed}
-use Rattle.image.specs.declared.Surveyed.the-variants.{Bad}
+use Rattle.image.specs.declared.Surveyed.the-variants.{Laid, Bad}
 use Rattle.image.specs.Layout.{count, called, withinLimits, header, laidOut, layoutOf}
 use Rattle.image.specs.Image.{rowsFault, sizedFault, imageFault, SoundLayout, surveyed, soundly}
 use Rattle.lists.specs.Lists.{isNone}
@@ -27,6 +27,31 @@ use Rattle.image.proofs.Layouts.{laid-within, sound-tables}
 
 pub surveyed-bad : {o : Option Fault} {f : Fault} (l : Layout) → o ≡ some f → Bad f ≡ surveyed o l
 surveyed-bad l e = sym (rw e)
+
+-- read back: where the tables lie, or what is wrong
+pub laid-none : (o : Option Fault) (d : Layout) {l : Layout} → Laid l ≡ surveyed o d → (o ≡ none) × (l ≡ d)
+laid-none none d e = (refl, cc)
+laid-none (some f) d e = (cc, cc)
+
+pub bad-some : (o : Option Fault) (d : Layout) {f : Fault} → Bad f ≡ surveyed o d → o ≡ some f
+bad-some none d e = cc
+bad-some (some g) d e = cc
+
+sound-none : (b : Bool) → cond b none (some NotSound) ≡ none → b ≡ true
+sound-none true e = refl
+sound-none false e = cc
+
+unsound-some : (b : Bool) (f : Fault) → cond b none (some NotSound) ≡ some f → b ≡ false
+unsound-some true f e = cc
+unsound-some false f e = refl
+
+pub store-laid : (w : List ℕ) {l : Layout} → Laid l ≡ surveyed (storeFault w) (layoutOf w) → (isSound w ≡ true) × (l ≡ layoutOf w)
+unfolding storeFault
+store-laid w e = let p = laid-none _ _ e in (sound-none (isSound w) (p .0), p .1)
+
+pub store-bad : (w : List ℕ) {f : Fault} → Bad f ≡ surveyed (storeFault w) (layoutOf w) → isSound w ≡ false
+unfolding storeFault
+store-bad w {f} e = unsound-some (isSound w) f (bad-some _ _ e)
 
 soundly-rows : (o : Option Fault) (l : Layout) → surveyed (cond (isNone o) none (some NotSound)) l ≡ soundly (surveyed o l)
 soundly-rows none l = refl

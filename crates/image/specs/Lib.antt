@@ -1,3 +1,4 @@
 pub mod Layout
 pub mod Image
 pub mod Store
+pub mod Written

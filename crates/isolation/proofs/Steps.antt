@@ -16,7 +16,7 @@ use Rattle.image.specs.Store.{held}
 use Rattle.procedure.specs.Request.{asked, legalRequest}
 use Rattle.procedure.specs.Decision.{judged, answer}
 use Rattle.edits.specs.declared.Edited.{Edited}
-use Rattle.edits.specs.Instances.{instance, statusColumn}
+use Rattle.instance.specs.Instances.{instance, statusColumn}
 use Rattle.edits.specs.Edits.{Edit, put, remove, Caller, Outcome, tableOf, indexOfEdit, legalEdit, legalCaller, isContext, edit, allowed, judgement, ownerEdit, principalEdit}
 use Rattle.edits.specs.Calls.{editedNumber, answered, left, Edits}
 use Rattle.isolation.specs.Isolation.{Call, ask, owner, by, Reply, decided, edited, Does, Circle, ofCircle, isMember, shared, implies, staysInside, insidersEdit, mapsToGroup, givesChosen, findsRoom, othersRefused}

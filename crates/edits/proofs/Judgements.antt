@@ -1,0 +1,138 @@
+-- The judgement of a principal's edit, at the status instance of its row.
+-- The key at a whole row's front is itself whole and holds the row's index, so that a put is judged as the removal of its key. An index has at
+-- most a part for each byte of its fields' counts and numbers and for each part of its sequences: 98 at most, and the instance 110; so 128
+-- are room enough and encoding never fails. Assumes nothing.
+use mathlib.Core.Path.{_≡_, refl, sym, ap, _∙_}
+use mathlib.Core.Bool.{true, cond, _&&_}
+use mathlib.Core.List.{List, [], _∷_, _++_}
+use mathlib.Core.Option.{none}
+use Prim.Native.Nat.{ℕ, _+_, _-_, _≤_}
+use native.Mathlib.Omega.{arith}
+use lib.Dec.{leb}
+use lib.ListN.{length, take, drop, getD, length-append, length-take}
+use lib.Seq.{take-at}
+use borrow.Author.Tests.{le-leb}
+use Rattle.answers.specs.declared.Fault.{Fault}
+use Rattle.answers.specs.declared.Written.{Written}
+use Rattle.answers.specs.declared.Written.the-variants.{Length, Unwritten}
+use Rattle.lists.specs.Lists.{isNone}
+use Rattle.rows.specs.declared.Table.{Table}
+use Rattle.rows.specs.declared.Table.the-variants.{Context, Mapping, Access, View}
+use Rattle.rows.specs.Fields.{size, Field, sequence, integer, fault, taken, value, faults, values, span, rowBytes, legals, indexField, index}
+use Rattle.rows.specs.Rows.{keyFields, rowFields}
+use Rattle.rows.specs.Tables.{Tables}
+use Rattle.rows.proofs.Appends.{restFields, row-split}
+use Rattle.rows.proofs.Inverse.{Bytes, bytes-front, legals-front, faults-made, values-made, length-numbers}
+use Rattle.rows.proofs.Sound.{within-most, sequence-range, faults-first, faults-rest}
+use Rattle.procedure.specs.Request.{asked}
+use Rattle.procedure.specs.Decision.{decision}
+use Rattle.exchange.proofs.Stores.{rowKey}
+use Rattle.instance.specs.Instances.{base, instance, statusColumn, keyIndex, encodeFault, written, Encodes}
+use Rattle.edits.specs.Edits.{Caller, put, remove, indexOfEdit, judgement}
+
+-- ---- the key at a row's front
+
+module _ (t : Table) (row : List ℕ) (b : Bytes row) (f : faults (rowFields t) row ≡ none) where
+  front-bytes : rowBytes (keyFields t) (values (keyFields t) row) ≡ rowKey t row
+  front-bytes = bytes-front (keyFields t) (restFields t) row b (rw (row-split t) at f)
+
+  front-legal : legals (keyFields t) (values (keyFields t) row) ≡ true
+  front-legal = legals-front (keyFields t) (restFields t) row b (rw (row-split t) at f)
+
+  pub key-whole : faults (keyFields t) (rowKey t row) ≡ none
+  key-whole = rw (← front-bytes) (faults-made (keyFields t) (values (keyFields t) row) front-legal)
+
+  key-index : indexOfEdit (remove t (rowKey t row)) ≡ indexOfEdit (put t row)
+  unfolding indexOfEdit
+  key-index = ap (index (keyFields t)) (ap (values (keyFields t)) (sym front-bytes) ∙ values-made (keyFields t) (values (keyFields t) row) front-legal)
+
+  pub key-part : (k : ℕ) → span (keyFields t) row ≡ k → take (k - 0) row ≡ rowKey t row
+  key-part k e = let z : k - 0 ≡ span (keyFields t) row = omega arith in ap (λ n. take n row) z
+
+  -- a put is judged as the removal of its key
+  pub put-judged : (tables : Tables) (c : Caller) → judgement tables c (remove t (rowKey t row)) ≡ judgement tables c (put t row)
+  unfolding judgement
+  put-judged tables c =
+      ap (λ i. decision tables (asked (c .securityModel) (c .securityName) (c .securityLevel) 2 [] (instance t (statusColumn t) i))) key-index
+
+-- ---- the instance is short
+
+abbrev partsField : Field → ℕ
+partsField (sequence w lo hi) = 1 + hi
+partsField (integer w lo hi) = 1
+
+abbrev partsOf : List Field → ℕ
+partsOf [] = 0
+partsOf (k ∷ ks) = partsField k + partsOf ks
+
+field-short : (k : Field) (v : List ℕ) → fault k v ≡ none → length (indexField k (value k v)) ≤ partsField k
+field-short (sequence w lo hi) v h =
+    omega (arith, length-numbers w (getD v 0 0) (drop 1 v), within-most lo hi (getD v 0 0) (sequence-range (size w) lo hi v h))
+field-short (integer w lo hi) v h = omega arith
+
+index-short : (ks : List Field) (v : List ℕ) → faults ks v ≡ none → length (index ks (values ks v)) ≤ partsOf ks
+index-short [] v h = omega arith
+index-short (k ∷ ks) v h =
+    let u = drop (taken k v) v in
+    omega (
+      arith,
+      length-append (indexField k (value k v)) (index ks (values ks u)),
+      field-short k v (faults-first k ks v h),
+      index-short ks u (faults-rest k ks v h),
+    )
+
+instance-short : (t : Table) (key : List ℕ) → faults (keyFields t) key ≡ none → length (instance t (statusColumn t) (keyIndex t key)) ≤ 110
+unfolding keyFields keyIndex
+instance-short Context key h = omega (arith, index-short (keyFields Context) key h)
+instance-short Mapping key h = omega (arith, index-short (keyFields Mapping) key h)
+instance-short Access key h = omega (arith, index-short (keyFields Access) key h)
+instance-short View key h = omega (arith, index-short (keyFields View) key h)
+
+-- ---- so it is encoded in 128 parts
+
+listed : (t : Table) (key : List ℕ) (room : ℕ) → faults (keyFields t) key ≡ none → length (instance t (statusColumn t) (keyIndex t key)) ≤ room
+    → encodeFault t (statusColumn t) key room ≡ none
+unfolding encodeFault
+listed Context key room f l = rw (f, le-leb (length (instance Context 1 (keyIndex Context key))) room l)
+listed Mapping key room f l = rw (f, le-leb (length (instance Mapping 5 (keyIndex Mapping key))) room l)
+listed Access key room f l = rw (f, le-leb (length (instance Access 9 (keyIndex Access key))) room l)
+listed View key room f l = rw (f, le-leb (length (instance View 6 (keyIndex View key))) room l)
+
+module _ (t : Table) (key : List ℕ) (f : faults (keyFields t) key ≡ none) {column : ℕ} (s : column ≡ statusColumn t)
+    {found after : List ℕ} {r : Written} (e : Encodes t column key found after r) (l : length found ≡ 128) where
+  abbrev status : List ℕ
+  status = instance t (statusColumn t) (keyIndex t key)
+
+  fits : encodeFault t (statusColumn t) key (length found) ≡ none
+  fits = listed t key (length found) f (omega (arith, instance-short t key f))
+
+  encodes : Encodes t (statusColumn t) key found after r
+  encodes = rw (← s) e
+
+  answered : r ≡ Length (length status)
+  answered = encodes .answer-is ∙ ap (λ o. written o (length status)) fits
+
+  pub encoded-always : {g : Fault} → r ≡ Unwritten g → ⊥
+  encoded-always {g} q = let z : _≡_ {A = ℕ} 0 1 = cc answered in omega arith
+
+  -- the parts written are the instance's
+  pub encoded-parts : {n : ℕ} → r ≡ Length n → take (n - 0) after ≡ status
+  encoded-parts {n} q =
+      let y : n ≡ length status = cc answered in
+      let z : n - 0 ≡ length status = omega arith in
+      rw (z, encodes .buffer-is, fits) (take-at status (drop (length status) found) (length status) refl)
+
+  -- which are there, and few
+  pub encoded-room : {n : ℕ} → r ≡ Length n → n ≤ length after
+  encoded-room {n} q =
+      let y : n ≡ length status = cc answered in
+      omega (arith, ap length (encoded-parts q), length-take (n - 0) after)
+
+  pub encoded-few : {n : ℕ} → r ≡ Length n → length (take (n - 0) after) ≤ 128
+  encoded-few q = omega (arith, ap length (encoded-parts q), instance-short t key f)
+
+-- and judging there is the judgement
+pub judged-at : (tables : Tables) (c : Caller) (t : Table) (key : List ℕ) {v : List ℕ} → v ≡ instance t (statusColumn t) (keyIndex t key)
+    → decision tables (asked (c .securityModel) (c .securityName) (c .securityLevel) 2 [] v) ≡ judgement tables c (remove t key)
+unfolding judgement indexOfEdit keyIndex
+judged-at tables c t key e = ap (λ i. decision tables (asked (c .securityModel) (c .securityName) (c .securityLevel) 2 [] i)) e

@@ -1,0 +1,21 @@
+-- `imaging::write_row` meets its contract: a copy of as many bytes as the part has is all of the part. Assumes nothing.
+use mathlib.Core.Path.{_∙_}
+use borrow.Author.Needs.{needs}
+use Rattle.imaging.proofs.Parts.{paste-all}
+use Rattle.imaging.proofs.write_row.Statement.{statement}
+use Rattle.imaging.proofs.write_row.Tie as tie
+
+copy-in-requires : tie.Need-copy-in-requires
+copy-in-requires c κs = search needs
+
+same-length : tie.Need-same-length
+same-length c = search needs
+
+returns : tie.Need-returns
+returns c =
+    let k = c .before .before in
+    let s = k .before .before .before .before in
+    k .copy-in .ensures ∙ paste-all (s .args .row .now) (s .args .part .now) (s .pre)
+
+pub write-row-spec : {M : Type 1} → statement M
+write-row-spec = tie.close (tie.spec copy-in-requires same-length returns)

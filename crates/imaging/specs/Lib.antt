@@ -1,0 +1,3 @@
+pub mod Imaging
+pub mod Inverse
+pub mod Examples

@@ -1,0 +1,12 @@
+pub mod Laying
+pub mod Words
+pub mod Scanning
+pub mod Parsing
+pub mod Indexing
+pub mod Keys
+pub mod Bases
+pub mod Taking
+pub mod Encoding
+pub mod Joining
+pub mod Delivering
+pub mod Inverse

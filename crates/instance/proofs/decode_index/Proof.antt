@@ -1,0 +1,101 @@
+-- `instance::decode_index` meets its contract: each return is a case of `Delivering`. The key was made within a buffer no longer than its own
+-- room, so it fits. Assumes nothing.
+use Prim.Native.Nat.{_-_}
+use native.Mathlib.Omega.{arith}
+use lib.ListN.{length-take}
+use borrow.Author.Needs.{needs}
+use Rattle.rows.specs.Rows.{keyFields}
+use Rattle.rows.specs.Fields.{rowBytes}
+use Rattle.instance.specs.Decoding.{parseFields}
+use Rattle.instance.proofs.Delivering.{index-unread, index-over, index-whole, made-room}
+use Rattle.instance.proofs.Joining.{Took, took, untaken}
+use Rattle.instance.proofs.decode_index.Statement.{statement}
+use Rattle.instance.proofs.decode_index.Tie as tie
+
+all : (c : tie.After-known-told) → let s = c .before .before .before .before .before .before .before .before .before .before .args in
+    Took (rowBytes (keyFields (s .t))) (parseFields (keyFields (s .t)) (s .index .now)) (s .index .now) (s .made .now)
+    (c .before .before .before .before .before .read-fields .last .1 .1 .1 .0) (record { part = 0; byte = 0 }) (c .before .read .given .0 .0)
+all c =
+    let s = c .before .before .before .before .before .before .before .before .before .before .args in
+    let r = c .before .before .before .before .before .read-fields in
+    took (rowBytes (keyFields (s .t))) (s .index .now) (s .made .now) (r .last .1 .1 .1 .0) (record { part = 0; byte = 0 })
+    (parseFields (keyFields (s .t)) (s .index .now)) (r .ensures) (c .before .read .given .1)
+
+read-fields-requires : tie.Need-read-fields-requires
+read-fields-requires c κs = search needs
+
+enum-known-read : tie.Need-enum-known-read
+enum-known-read c = search needs
+
+enum-told : tie.Need-enum-told
+enum-told c = search needs
+
+same-length : tie.Need-same-length
+same-length c = search needs
+
+returns : tie.Need-returns
+returns c =
+    let s = c .before .before .before .before .before .before .before .before .before .args in
+    let r = c .before .before .before .before .read-fields in
+    index-unread (s .t) (s .column) (s .index .now) (s .key .now)
+    (untaken (rowBytes (keyFields (s .t))) (s .index .now) (s .made .now) (r .last .1 .1 .1 .0) (record { part = 0; byte = 0 })
+    (parseFields (keyFields (s .t)) (s .index .now)) (r .ensures) (c .enum-told .given .1))
+
+same-length-2 : tie.Need-same-length-2
+same-length-2 c = search needs
+
+returns-2 : tie.Need-returns-2
+returns-2 c = let s = c .before .before .before .before .before .before .before .before .before .before .before .before .args in
+    index-over (s .t) (s .column) (s .index .now) (s .key .now) (all (c .before .before)) (c .if1 .taken)
+
+sub-copy-in : tie.Need-sub-copy-in
+sub-copy-in c = search needs
+
+part-copy-in-start : tie.Need-part-copy-in-start
+part-copy-in-start c = search needs
+
+part-copy-in-end : tie.Need-part-copy-in-end
+part-copy-in-end c = let s = c .before .before .before .before .before .before .before .before .before .before .before .before .before .before .args in made-room (s .t) (s .column) (s .index .now) (s .key .now) (all (c .before .before .before .before))
+
+copy-in-requires : tie.Need-copy-in-requires
+copy-in-requires c κs =
+    let k = c .before .before .before .before .before in
+    let r = k .before .before .before .before .before .read-fields in
+    let n = k .before .read .given .0 .0 .byte in
+    omega (
+      arith,
+      length-take (n - 0) (r .last .1 .1 .1 .0),
+      r .kept .1 .1 .1 .0,
+      k .before .before .before .before .before .before .before .before .before .before .pre,
+    )
+
+same-length-3 : tie.Need-same-length-3
+same-length-3 c = search needs
+
+same-length-4 : tie.Need-same-length-4
+same-length-4 c = search needs
+
+returns-3 : tie.Need-returns-3
+returns-3 c =
+    let s = c .before .before .before .before .before .before .before .before .before .before .before .before .before .before .before .before .before .before .args in
+    index-whole (s .t) (s .column) (s .index .now) (s .key .now) (all (c .before .before .before .before .before .before .before .before))
+    (c .before .before .before .before .before .before .if1 .left) _ (c .before .before .copy-in .ensures)
+
+pub decode-index-spec : {M : Type 1} → statement M
+decode-index-spec =
+    tie.close
+    (tie.spec
+    read-fields-requires
+    enum-known-read
+    enum-told
+    same-length
+    returns
+    same-length-2
+    returns-2
+    sub-copy-in
+    part-copy-in-start
+    part-copy-in-end
+    copy-in-requires
+    same-length-3
+    same-length-4
+    returns-3)

@@ -1,0 +1,69 @@
+-- `instance::table_of` meets its contract: the tables are tried in the order of the definition. Assumes nothing.
+use mathlib.Core.Path.{sym, _∙_}
+use borrow.Author.Needs.{needs}
+use Rattle.instance.specs.Decoding.{tableOf}
+use Rattle.instance.proofs.table_of.Statement.{statement}
+use Rattle.instance.proofs.table_of.Tie as tie
+
+is-below-requires : tie.Need-is-below-requires
+is-below-requires c κs = search needs
+
+returns : tie.Need-returns
+unfolding tableOf
+returns c = rw (sym (c .before .is-below .ensures) ∙ c .if1 .taken)
+
+is-below-requires-2 : tie.Need-is-below-requires-2
+is-below-requires-2 c κs = search needs
+
+returns-2 : tie.Need-returns-2
+unfolding tableOf
+returns-2 c = rw (
+  sym (c .before .before .before .is-below .ensures) ∙ c .before .before .if1 .left,
+  sym (c .before .is-below2 .ensures) ∙ c .if2 .taken,
+)
+
+is-below-requires-3 : tie.Need-is-below-requires-3
+is-below-requires-3 c κs = search needs
+
+returns-3 : tie.Need-returns-3
+unfolding tableOf
+returns-3 c = rw (
+  sym (c .before .before .before .before .before .is-below .ensures) ∙ c .before .before .before .before .if1 .left,
+  sym (c .before .before .before .is-below2 .ensures) ∙ c .before .before .if2 .left,
+  sym (c .before .is-below3 .ensures) ∙ c .if3 .taken,
+)
+
+is-below-requires-4 : tie.Need-is-below-requires-4
+is-below-requires-4 c κs = search needs
+
+returns-4 : tie.Need-returns-4
+unfolding tableOf
+returns-4 c = rw (
+  sym (c .before .before .before .before .before .before .before .is-below .ensures) ∙ c .before .before .before .before .before .before .if1 .left,
+  sym (c .before .before .before .before .before .is-below2 .ensures) ∙ c .before .before .before .before .if2 .left,
+  sym (c .before .before .before .is-below3 .ensures) ∙ c .before .before .if3 .left,
+  sym (c .before .is-below4 .ensures) ∙ c .if4 .taken,
+)
+
+returns-5 : tie.Need-returns-5
+unfolding tableOf
+returns-5 c = rw (
+  sym (c .before .before .before .before .before .before .before .is-below .ensures) ∙ c .before .before .before .before .before .before .if1 .left,
+  sym (c .before .before .before .before .before .is-below2 .ensures) ∙ c .before .before .before .before .if2 .left,
+  sym (c .before .before .before .is-below3 .ensures) ∙ c .before .before .if3 .left,
+  sym (c .before .is-below4 .ensures) ∙ c .if4 .left,
+)
+
+pub table-of-spec : {M : Type 1} → statement M
+table-of-spec =
+    tie.close
+    (tie.spec
+    is-below-requires
+    returns
+    is-below-requires-2
+    returns-2
+    is-below-requires-3
+    returns-3
+    is-below-requires-4
+    returns-4
+    returns-5)

@@ -1,0 +1,8 @@
+pub mod Instances
+pub mod Runs
+pub mod Buffers
+pub mod Decoding
+pub mod Reading
+pub mod Inverse
+pub mod Examples
+pub mod Numbers
