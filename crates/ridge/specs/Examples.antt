@@ -1,26 +1,46 @@
--- Document 01's examples P1 to P9 over the Ridge tables, as a table and one theorem for the table. Assumes nothing.
+-- Document 01's examples P1 to P12, as a table and one theorem for the table. P1 to P9 are requests on the Ridge tables. Assumes nothing.
 use mathlib.Core.Path.{_≡_, refl}
 use mathlib.Core.List.{List, [], _∷_, map}
 use mathlib.Core.Option.{some}
 use Prim.Native.Nat.{ℕ}
 use Rattle.answers.specs.Numbers.{answerNumber}
 use Rattle.lists.specs.Order.{same, before, begins}
+use Rattle.rows.specs.declared.Table.{Table}
+use Rattle.rows.specs.declared.Table.the-variants.{Mapping}
+use Rattle.rows.specs.Fields.{index}
+use Rattle.rows.specs.Rows.{keyFields, rowFields}
+use Rattle.rows.specs.Tables.{Tables, noRows}
 use Rattle.procedure.specs.Request.{Request, asked, legalRequest}
 use Rattle.procedure.specs.Decision.{answer, decision, bearsContext, mapsPrincipal, contextFits, candidate, chosenAccess, viewFor, inView, maskBit, agrees, matches, chosenView}
+use Rattle.instance.specs.Instances.{instance}
+use Rattle.imaging.specs.Imaging.{imageOf, rowsOf}
 use Rattle.ridge.specs.Ridge.{ridgeTables, ann, bob, cal, ridge, ridge1}
+
+pub data Example : Type 0 where
+  -- a request on the Ridge tables, and the number of its answer
+  answered : Request → ℕ → Example
+  -- a table's column and the key's fields, and the instance
+  isInstance : Table → ℕ → List (List ℕ) → List ℕ → Example
+  -- tables, and their image
+  isImage : Tables → List ℕ → Example
 
 -- below 1.3.6.1.2.1.2.2.1
 abbrev below : List ℕ → List ℕ
 below parts = 1 ∷ 3 ∷ 6 ∷ 1 ∷ 2 ∷ 1 ∷ 2 ∷ 2 ∷ 1 ∷ parts
 
-pub record Example : Type 0 where
-  pub request : Request
-  pub number : ℕ
-
-abbrev example : List ℕ → ℕ → ℕ → List ℕ → List ℕ → ℕ → Example
-example name level view context parts number = record { request = asked 3 name level view context (below parts); number = number }
-
 -- security name, level, view type, context, the variable's last parts, the answer
+abbrev example : List ℕ → ℕ → ℕ → List ℕ → List ℕ → ℕ → Example
+example name level view context parts number = answered (asked 3 name level view context (below parts)) number
+
+-- one empty context
+abbrev emptyContext : Tables
+emptyContext = record {
+  vacmContextTable = record { contextName = [] } ∷ [];
+  vacmSecurityToGroupTable = [];
+  vacmAccessTable = [];
+  vacmViewTreeFamilyTable = [];
+}
+
 abbrev pub examples : List Example
 examples =
     -- P1: her own row B includes it
@@ -41,10 +61,26 @@ examples =
     ∷ example bob 3 1 ridge1 (8 ∷ 2 ∷ []) 2
     -- P9: "train" has no access row
     ∷ example cal 3 1 ridge1 (8 ∷ 2 ∷ []) 3
+    -- P10: the status of ann's mapping
+    ∷ isInstance Mapping 5 ((3 ∷ []) ∷ ann ∷ []) (1 ∷ 3 ∷ 6 ∷ 1 ∷ 6 ∷ 3 ∷ 16 ∷ 1 ∷ 2 ∷ 1 ∷ 5 ∷ 3 ∷ 3 ∷ 97 ∷ 110 ∷ 110 ∷ [])
+    -- P11: a fresh image
+    ∷ isImage noRows (0 ∷ 0 ∷ 0 ∷ 0 ∷ 0 ∷ 0 ∷ 0 ∷ 0 ∷ [])
+    -- P12: one empty context
+    ∷ isImage emptyContext (0 ∷ 1 ∷ 0 ∷ 0 ∷ 0 ∷ 0 ∷ 0 ∷ 0 ∷ 0 ∷ 1 ∷ 0 ∷ [])
     ∷ []
 
--- each request has its answer
-pub examples-hold :
-    map (λ (e : Example). answerNumber (answer (some ridgeTables) (e .request))) examples ≡ map (λ (e : Example). e .number) examples
-unfolding decision legalRequest bearsContext mapsPrincipal contextFits candidate chosenAccess viewFor inView maskBit agrees matches chosenView same before begins
+-- what the definitions give, and what document 01 says
+abbrev pub given : Example → List ℕ
+given (answered request number) = answerNumber (answer (some ridgeTables) request) ∷ []
+given (isInstance t column fields oid) = instance t column (index (keyFields t) fields)
+given (isImage tables image) = imageOf tables
+
+abbrev pub expected : Example → List ℕ
+expected (answered request number) = number ∷ []
+expected (isInstance t column fields oid) = oid
+expected (isImage tables image) = image
+
+-- they are the same in each example
+pub examples-hold : map given examples ≡ map expected examples
+unfolding decision legalRequest bearsContext mapsPrincipal contextFits candidate chosenAccess viewFor inView maskBit agrees matches chosenView same before begins keyFields rowFields imageOf rowsOf
 examples-hold = refl
