@@ -1,0 +1,87 @@
+// The calls on a store under C names, for the benchmark to measure beside another implementation. An agent in C links the crate `agent`.
+use answers::Written;
+use rows::Table;
+ghost use mathlib.Core.Path.{_≡_};
+ghost use Rattle.answers.specs.Numbers.{answerNumber};
+ghost use Rattle.image.specs.Store.{held};
+ghost use Rattle.procedure.specs.Request.{asked};
+ghost use Rattle.procedure.specs.Decision.{answer};
+ghost use Rattle.edits.specs.Edits.{put, remove};
+ghost use Rattle.edits.specs.Calls.{editedNumber, OwnerEdits};
+ghost use Rattle.imaging.specs.Imaging.{loadedNumber, Reads, Writes};
+ghost use Rattle.bench.specs.Measured.{tableNumbered, lengthNumber, Numbered};
+
+fn table_numbered(n: u32) -> Table
+    ensures { λ r. ⌜ r ≡ tableNumbered n ⌝ }
+{
+    if n == 0 {
+        return Table::Context;
+    }
+    if n == 1 {
+        return Table::Mapping;
+    }
+    if n == 2 {
+        return Table::Access;
+    }
+    Table::View
+}
+
+fn length_number(w: Written) -> u64
+    ensures { λ r. ⌜ r ≡ lengthNumber w ⌝ }
+{
+    match w {
+        Written::Length(n) => n as u64,
+        Written::Unwritten(f) => 4294967296 + answers::fault_number(f) as u64,
+    }
+}
+
+#[no_mangle]
+pub extern "C" fn bench_decide(
+    store: &[u8],
+    model: u32,
+    name: &[u8],
+    level: u32,
+    view_type: u32,
+    context: &[u8],
+    variable: &[u32],
+) -> u32
+    ensures { λ r. ⌜ r ≡ answerNumber (answer (held (now (store .entry))) (asked model (now (name .entry)) level «view_type» (now (context .entry)) (now (variable .entry)))) ⌝ }
+{
+    answers::answer_number(decision::is_access_allowed(
+        store,
+        model,
+        name,
+        level,
+        view_type,
+        context,
+        variable,
+    ))
+}
+
+#[no_mangle]
+pub extern "C" fn bench_owner_put(store: &mut [u8], table: u32, row: &[u8]) -> u32
+    ensures { λ r. ⌜ Numbered editedNumber (OwnerEdits (put (tableNumbered table) (now (row .entry))) (now (store .entry)) (now (store .exit))) r ⌝ }
+{
+    edits::edited_number(edits::owner_put(store, table_numbered(table), row))
+}
+
+#[no_mangle]
+pub extern "C" fn bench_owner_remove(store: &mut [u8], table: u32, key: &[u8]) -> u32
+    ensures { λ r. ⌜ Numbered editedNumber (OwnerEdits (remove (tableNumbered table) (now (key .entry))) (now (store .entry)) (now (store .exit))) r ⌝ }
+{
+    edits::edited_number(edits::owner_remove(store, table_numbered(table), key))
+}
+
+#[no_mangle]
+pub extern "C" fn bench_read_image(image: &[u8], store: &mut [u8; 46456]) -> u32
+    ensures { λ r. ⌜ Numbered loadedNumber (Reads (now (image .entry)) (now (store .entry)) (now (store .exit))) r ⌝ }
+{
+    imaging::loaded_number(imaging::read_image(image, store))
+}
+
+#[no_mangle]
+pub extern "C" fn bench_write_image(store: &[u8], out: &mut [u8]) -> u64
+    ensures { λ r. ⌜ Numbered lengthNumber (Writes (held (now (store .entry))) (now (out .entry)) (now (out .exit))) r ⌝ }
+{
+    length_number(imaging::write_image(store, out))
+}
