@@ -1,6 +1,6 @@
 -- Laws of a list laid into another, in the place of as many elements as it has.
 -- Laid one behind the other, two lists are laid as one (`laid-laid`): so is a store of one element, a part that was lent and came
--- back, and a buffer that is filled from the left, by one element or several at a time (`Filled`). Assumes nothing.
+-- back, and a buffer that is filled from the left, in three parts, or by one element or several at a time (`Filled`). Assumes nothing.
 use mathlib.Core.Path.{_≡_, refl, sym, ap, _∙_}
 use mathlib.Core.List.{List, [], _∷_, _++_, append-assoc, append-nil}
 use Prim.Native.Nat.{ℕ, _+_, _-_, _≤_, _<_}

@@ -1,6 +1,6 @@
 -- Laws of what a reader takes from an index.
--- A field is taken or not by the part, or the count, at its place (`Parsing`), and its bytes are laid into the key. Fields are taken
--- one behind the other: where the first is not, none are. Assumes nothing.
+-- A field is taken or not by the part, or the count, at its place (`Parsing`), and its bytes are laid into the key: a
+-- count and what it counts are laid one behind the other. Assumes nothing.
 use mathlib.Core.Path.{_≡_, refl, sym, ap, _∙_}
 use mathlib.Core.Bool.{true, false}
 use mathlib.Core.List.{List, [], _∷_, _++_}

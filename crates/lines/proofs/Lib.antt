@@ -1,0 +1,4 @@
+pub mod Requests
+pub mod Numerals
+pub mod Lines
+pub mod Steps

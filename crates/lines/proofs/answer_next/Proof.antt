@@ -1,0 +1,93 @@
+use lib.ListN.{length}
+use Prim.Native.Nat.{_<_}
+use Rattle.lines.proofs.Steps.{step-held, step-told}
+use native.Mathlib.Omega.{arith}
+use borrow.Author.Needs.{needs}
+use Rattle.lines.proofs.answer_next.Statement.{statement}
+use Rattle.lines.proofs.answer_next.Tie as tie
+use Rattle.lines.proofs.answer_next.Reads as reads
+use Rattle.lines.proofs.answer_next.Lts as lts
+use Rattle.lines.proofs.answer_line.Reads as answer-line-reads
+use Rattle.lines.proofs.continue_line.Reads as continue-line-reads
+use Rattle.lines.proofs.tell.Reads as tell-reads
+
+-- src/lib.rt:411:9
+continue-line-requires : tie.Need-continue-line-requires
+continue-line-requires c κs = let r = c .before .before .before .before .before .pre .1 .0 in (r .held-in, r .at-in)
+
+-- src/lib.rt:416:9
+same-length : tie.Need-same-length
+same-length c = search needs
+
+-- src/lib.rt:416:9
+returns : tie.Need-returns
+returns c = let s = c .before .before .before .before .before .before .before .before .before in
+    let k = c .before .before .before .continue-line in (
+      step-held _ (s .args .p) _ (s .args .line .now) _ (s .args .piece .now) (s .args .out .now) (s .pre .1 .0) (k .ensures) (k .kept .0) (c .if1 .taken),
+      omega (arith, s .pre .1 .1, c .if1 .taken),
+    )
+
+-- src/lib.rt:423:18
+add-number : tie.Need-add-number
+add-number c = omega (arith, c .before .before .before .before .before .before .before .before .before .before .pre .1 .1)
+
+-- src/lib.rt:424:40
+sub-answer-line : tie.Need-sub-answer-line
+sub-answer-line c = search needs
+
+-- src/lib.rt:424:40
+part-answer-line-start : tie.Need-part-answer-line-start
+part-answer-line-start c = search needs
+
+-- src/lib.rt:424:40
+part-answer-line-end : tie.Need-part-answer-line-end
+part-answer-line-end c = let k = c .before .before .before .before .before .continue-line in omega (arith, k .ensures .holds-in, k .kept .0)
+
+-- src/lib.rt:424:9
+answer-line-requires : tie.Need-answer-line-requires
+answer-line-requires c κs = c .before .before .before .before .before .before .before .before .before .before .before .before .pre .0
+
+-- src/lib.rt:425:9
+tell-requires : tie.Need-tell-requires
+tell-requires c κs = c .before .before .before .before .before .before .before .before .before .before .before .before .before .before .pre .1 .1 .1
+
+-- src/lib.rt:429:13
+add-t18 : tie.Need-add-t18
+add-t18 c = let k = c .before .before .before .before .before .before .before .before .before .before .before .continue-line in omega (arith, k .ensures .ends-in, c .before .before .before .before .before .before .before .before .if1 .left, c .before .before .before .before .before .before .before .before .before .before .before .before .before .before .before .before .before .good)
+
+-- src/lib.rt:395:1
+same-length-2 : tie.Need-same-length-2
+same-length-2 c = search needs
+
+-- src/lib.rt:395:1
+same-length-3 : tie.Need-same-length-3
+same-length-3 c = search needs
+
+-- src/lib.rt:395:1
+returns-2 : tie.Need-returns-2
+returns-2 c = let s = c .before .before .before .before .before .before .before .before .before .before .before .before .before .before .before .before .before in
+    let k = c .before .before .before .before .before .before .before .before .before .before .before .continue-line in
+    let d = c .before .before .tell in
+    let e : k .result .end < length (s .args .piece .now) = omega (arith, k .ensures .ends-in, c .before .before .before .before .before .before .before .before .if1 .left) in (
+      step-told _ (s .args .p) _ (s .args .line .now) _ (s .args .piece .now) (s .args .out .now) (s .pre .1 .0) (k .ensures) (k .kept .0) _ _ _
+          (c .before .before .before .before .answer-line .ensures) (omega (arith, d .ensures .1, d .kept .0, s .pre .1 .1)) (d .ensures .0) e,
+      omega (arith, k .ensures .ends),
+    )
+
+pub answer-next-spec : {M : Type 1} → statement M
+answer-next-spec =
+    tie.close
+    (tie.spec
+    continue-line-requires
+    same-length
+    returns
+    add-number
+    sub-answer-line
+    part-answer-line-start
+    part-answer-line-end
+    answer-line-requires
+    tell-requires
+    add-t18
+    same-length-2
+    same-length-3
+    returns-2)

@@ -1,0 +1,94 @@
+use Rattle.lines.proofs.Lines.{continue-made}
+use Rattle.words.proofs.Words.{run-most}
+use Rattle.words.specs.Words.{run}
+use lib.ListN.{length, drop}
+use Prim.Native.Nat.{_+_, _-_, min}
+use mathlib.Core.Path.{_≡_}
+use native.Mathlib.Omega.{arith}
+use borrow.Author.Needs.{needs}
+use Rattle.lines.proofs.continue_line.Statement.{statement}
+use Rattle.lines.proofs.continue_line.Tie as tie
+use Rattle.lines.proofs.continue_line.Reads as reads
+use Rattle.lines.proofs.continue_line.Lts as lts
+use Rattle.words.proofs.end_of.Reads as end-of-reads
+use Rattle.lines.proofs.least.Reads as least-reads
+use Rattle.splice.proofs.copy_in.Reads as copy-in-reads
+
+-- src/lib.rt:376:9
+end-of-requires : tie.Need-end-of-requires
+end-of-requires c κs = search needs
+
+-- src/lib.rt:377:19
+sub-least : tie.Need-sub-least
+sub-least c = search needs
+
+-- src/lib.rt:377:29
+sub-least-2 : tie.Need-sub-least-2
+sub-least-2 c = search needs
+
+-- src/lib.rt:377:9
+least-requires : tie.Need-least-requires
+least-requires c κs = search needs
+
+-- src/lib.rt:378:14
+add-to : tie.Need-add-to
+add-to c = search needs
+
+-- src/lib.rt:379:33
+sub-copy-in : tie.Need-sub-copy-in
+sub-copy-in c = search needs
+
+-- src/lib.rt:379:33
+part-copy-in-start : tie.Need-part-copy-in-start
+part-copy-in-start c = search needs
+
+-- src/lib.rt:379:33
+part-copy-in-end : tie.Need-part-copy-in-end
+part-copy-in-end c = search needs
+
+-- src/lib.rt:379:5
+copy-in-requires : tie.Need-copy-in-requires
+copy-in-requires c κs = search needs
+
+-- src/lib.rt:381:15
+add-t10 : tie.Need-add-t10
+add-t10 c = search needs
+
+-- src/lib.rt:372:1
+same-length : tie.Need-same-length
+same-length c = search needs
+
+-- src/lib.rt:372:1
+returns : tie.Need-returns
+returns c = let f = c .before .before .before .before .before .before in
+    let a = f .before .before .before .args in
+    let n = c .before .before .before .before .before .least in
+    let v = drop (a .at) (a .piece .now) in
+    let e : f .end-of .result - a .at ≡ run 10 v = omega (arith, f .end-of .ensures .0) in
+    let m : n .result ≡ min (run 10 v) (length (a .line .now) - a .held) = rw e at (n .ensures) in
+    let t : a .at + n .result - a .at ≡ n .result = omega arith in
+    record {
+      ends = f .end-of .ensures .0;
+      ends-in = f .end-of .ensures .1;
+      holds =
+          continue-made (a .line .now) (c .before .before .copy-in .last .0) v (a .held) (run 10 v) (n .result) (f .before .before .before .pre .0)
+          (run-most 10 v) m (rw t at (c .before .before .copy-in .ensures));
+      holds-in = omega (arith, m);
+    }
+
+pub continue-line-spec : {M : Type 1} → statement M
+continue-line-spec =
+    tie.close
+    (tie.spec
+    end-of-requires
+    sub-least
+    sub-least-2
+    least-requires
+    add-to
+    sub-copy-in
+    part-copy-in-start
+    part-copy-in-end
+    copy-in-requires
+    add-t10
+    same-length
+    returns)

@@ -1,0 +1,25 @@
+-- `texts::put_number` meets its contract: the octet and the digits are put one after the other. Assumes nothing.
+use mathlib.Core.List.{[], _∷_}
+use Rattle.texts.specs.Texts.{decimalText}
+use Rattle.texts.proofs.Laying.{both}
+use borrow.Author.Needs.{needs}
+use Rattle.texts.proofs.put_number.Statement.{statement}
+use Rattle.texts.proofs.put_number.Tie as tie
+
+put-octet-requires : tie.Need-put-octet-requires
+put-octet-requires c κs = search needs
+
+put-decimal-requires : tie.Need-put-decimal-requires
+put-decimal-requires c κs = search needs
+
+same-length : tie.Need-same-length
+same-length c = search needs
+
+returns : tie.Need-returns
+returns c =
+    let p = c .before .before .before .before .before .before in
+    let s = p .before .before .before in
+    both (s .args .lead ∷ []) (decimalText (s .args .n)) (s .pre) (p .put-octet .ensures) (c .before .before .put-decimal .ensures)
+
+pub put-number-spec : {M : Type 1} → statement M
+put-number-spec = tie.close (tie.spec put-octet-requires put-decimal-requires same-length returns)

@@ -1,0 +1,22 @@
+use Rattle.words.proofs.Words.{dash-one, dash-other}
+use native.Mathlib.Omega.{arith}
+use borrow.Author.Needs.{needs}
+use Rattle.words.proofs.is_dash.Statement.{statement}
+use Rattle.words.proofs.is_dash.Tie as tie
+use Rattle.words.proofs.is_dash.Reads as reads
+use Rattle.words.proofs.is_dash.Lts as lts
+
+-- src/lib.rt:89:16
+shared-slice-read-result : tie.Need-shared-slice-read-result
+shared-slice-read-result c = search needs
+
+-- src/lib.rt:89:9
+returns : tie.Need-returns
+returns c = dash-one _ (c .before .if1 .taken)
+
+-- src/lib.rt:85:1
+returns-2 : tie.Need-returns-2
+returns-2 c = dash-other _ (c .if1 .left)
+
+pub is-dash-spec : {M : Type 1} → statement M
+is-dash-spec = tie.close (tie.spec shared-slice-read-result returns returns-2)
