@@ -3,19 +3,17 @@
 -- most a part for each byte of its fields' counts and numbers and for each part of its sequences: 98 at most, and the instance 110; so 128
 -- are room enough and encoding never fails. Assumes nothing.
 use mathlib.Core.Path.{_≡_, refl, sym, ap, _∙_}
-use mathlib.Core.Bool.{true, cond, _&&_}
-use mathlib.Core.List.{List, [], _∷_, _++_}
+use mathlib.Core.Bool.{true}
+use mathlib.Core.List.{List, [], _∷_}
 use mathlib.Core.Option.{none}
 use Prim.Native.Nat.{ℕ, _+_, _-_, _≤_}
 use native.Mathlib.Omega.{arith}
-use lib.Dec.{leb}
 use lib.ListN.{length, take, drop, getD, length-append, length-take}
 use lib.Seq.{take-at}
 use borrow.Author.Tests.{le-leb}
 use Rattle.answers.specs.declared.Fault.{Fault}
 use Rattle.answers.specs.declared.Written.{Written}
 use Rattle.answers.specs.declared.Written.the-variants.{Length, Unwritten}
-use Rattle.lists.specs.Lists.{isNone}
 use Rattle.rows.specs.declared.Table.{Table}
 use Rattle.rows.specs.declared.Table.the-variants.{Context, Mapping, Access, View}
 use Rattle.rows.specs.Fields.{size, Field, sequence, integer, fault, taken, value, faults, values, span, rowBytes, legals, indexField, index}
@@ -27,7 +25,7 @@ use Rattle.rows.proofs.Sound.{within-most, sequence-range, faults-first, faults
 use Rattle.procedure.specs.Request.{asked}
 use Rattle.procedure.specs.Decision.{decision}
 use Rattle.exchange.proofs.Stores.{rowKey}
-use Rattle.instance.specs.Instances.{base, instance, statusColumn, keyIndex, encodeFault, written, Encodes}
+use Rattle.instance.specs.Instances.{instance, statusColumn, keyIndex, encodeFault, written, Encodes}
 use Rattle.edits.specs.Edits.{Caller, put, remove, indexOfEdit, judgement}
 
 -- ---- the key at a row's front

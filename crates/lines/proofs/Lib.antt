@@ -2,3 +2,4 @@ pub mod Requests
 pub mod Numerals
 pub mod Lines
 pub mod Steps
+pub mod Images

@@ -9,7 +9,6 @@ ghost use mathlib.Core.List.{_++_};
 ghost use mathlib.Core.Option.{some};
 ghost use Prim.Native.Nat.{_+_, _-_, _*_, _≤_, _<_, min};
 ghost use lib.ListN.{length, take, drop};
-ghost use Rattle.lists.specs.Order.{same};
 ghost use Rattle.image.specs.Image.{SoundLayout, tablesAt};
 ghost use Rattle.procedure.specs.Request.{asked};
 ghost use Rattle.words.specs.Words.{words, run, decimal as Words·decimal, hexOctets, dotted as Words·dotted};

@@ -1,10 +1,10 @@
 // Answers put as text into a lent slice: each writer puts one text at a place and returns the place behind it.
 use rows::Table;
 ghost use mathlib.Core.Path.{_≡_};
-ghost use mathlib.Core.List.{[], _∷_, _++_};
+ghost use mathlib.Core.List.{[], _∷_};
 ghost use mathlib.Core.Option.{none};
 ghost use Prim.Native.Nat.{_+_, _≤_, _<_};
-ghost use lib.ListN.{length, take, drop, getD};
+ghost use lib.ListN.{length, drop, getD};
 ghost use Rattle.rows.specs.declared.Table.the-variants.{Context, Mapping, Access, View};
 ghost use Rattle.rows.specs.Fields.{faults, values};
 ghost use Rattle.rows.specs.Rows.{keyFields};

@@ -1,5 +1,5 @@
 -- `edits::may_remove` meets its contract: the storage of the row held is read where it lies, where one is held. Assumes nothing.
-use mathlib.Core.Path.{refl, ap, _∙_}
+use mathlib.Core.Path.{ap, _∙_}
 use mathlib.Core.Bool.{not}
 use Prim.Native.Nat.{_+_, _≤_}
 use native.Mathlib.Omega.{arith}

@@ -1,0 +1,4 @@
+pub mod Following
+pub mod Placing
+pub mod Saying
+pub mod Entering

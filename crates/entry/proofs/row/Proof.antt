@@ -1,0 +1,26 @@
+-- `entry::row` meets its contract: all fields of the row. Assumes nothing.
+use mathlib.Core.Path.{_≡_, ap, _∙_}
+use lib.Seq.{take-length}
+use lib.ListN.{take}
+use borrow.Author.Needs.{needs}
+use Rattle.rows.specs.Rows.{rowFields}
+use Rattle.entry.proofs.row.Statement.{statement}
+use Rattle.entry.proofs.row.Tie as tie
+
+row-len-requires : tie.Need-row-len-requires
+row-len-requires c κs = search needs
+
+fields-requires : tie.Need-fields-requires
+fields-requires c κs = search needs
+
+same-length : tie.Need-same-length
+same-length c = search needs
+
+returns : tie.Need-returns
+returns c = let s = c .before .before .before .before .before .before .before in
+    let e : take (c .before .before .before .before .row-len .result) (rowFields (s .args .t)) ≡ rowFields (s .args .t) =
+    ap (λ n. take n (rowFields (s .args .t))) (c .before .before .before .before .row-len .ensures) ∙ take-length (rowFields (s .args .t)) in
+    rw e at (c .before .before .fields .ensures)
+
+pub row-spec : {M : Type 1} → statement M
+row-spec = tie.close (tie.spec row-len-requires fields-requires same-length returns)

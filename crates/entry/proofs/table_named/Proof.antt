@@ -1,0 +1,87 @@
+-- `entry::table_named` meets its contract: each test is one of the definition's, in its order. Assumes nothing.
+use mathlib.Core.Path.{_≡_, sym, _∙_}
+use mathlib.Core.Bool.{false}
+use borrow.Author.Needs.{needs}
+use Rattle.lists.specs.Order.{same}
+use Rattle.rows.specs.declared.Table.the-variants.{Context, Mapping, Access}
+use Rattle.texts.specs.Texts.{tableWord}
+use Rattle.entry.specs.Entries.{tableNamed}
+use Rattle.entry.proofs.table_named.Statement.{statement}
+use Rattle.entry.proofs.table_named.Tie as tie
+
+-- the tests that failed before
+no-context : (c : tie.Else1) → same (tableWord Context) (c .before .before .before .before .args .word .now) ≡ false
+no-context c = sym (c .before .are-same .ensures) ∙ c .if1 .left
+
+no-mapping : (c : tie.Else2) → same (tableWord Mapping) (c .before .before .before .before .before .before .before .args .word .now) ≡ false
+no-mapping c = sym (c .before .are-same2 .ensures) ∙ c .if2 .left
+
+no-access : (c : tie.Else3) → let e = c .before .before .before in
+    same (tableWord Access) (e .before .before .before .before .before .before .before .args .word .now) ≡ false
+no-access c = sym (c .before .are-same3 .ensures) ∙ c .if3 .left
+
+slice-aggregate-are-same : tie.Need-slice-aggregate-are-same
+slice-aggregate-are-same c = search needs
+
+are-same-requires : tie.Need-are-same-requires
+are-same-requires c κs = search needs
+
+returns : tie.Need-returns
+unfolding tableNamed
+returns c = rw (sym (c .before .are-same .ensures) ∙ c .if1 .taken)
+
+slice-aggregate-are-same-2 : tie.Need-slice-aggregate-are-same-2
+slice-aggregate-are-same-2 c = search needs
+
+are-same-requires-2 : tie.Need-are-same-requires-2
+are-same-requires-2 c κs = search needs
+
+returns-2 : tie.Need-returns-2
+unfolding tableNamed
+returns-2 c = rw (no-context (c .before .before .before), sym (c .before .are-same2 .ensures) ∙ c .if2 .taken)
+
+slice-aggregate-are-same-3 : tie.Need-slice-aggregate-are-same-3
+slice-aggregate-are-same-3 c = search needs
+
+are-same-requires-3 : tie.Need-are-same-requires-3
+are-same-requires-3 c κs = search needs
+
+returns-3 : tie.Need-returns-3
+unfolding tableNamed
+returns-3 c = rw (no-context (c .before .before .before .before .before .before), no-mapping (c .before .before .before), sym (c .before .are-same3 .ensures) ∙ c .if3 .taken)
+
+slice-aggregate-are-same-4 : tie.Need-slice-aggregate-are-same-4
+slice-aggregate-are-same-4 c = search needs
+
+are-same-requires-4 : tie.Need-are-same-requires-4
+are-same-requires-4 c κs = search needs
+
+returns-4 : tie.Need-returns-4
+unfolding tableNamed
+returns-4 c = let e = c .before .before .before in
+    let f = e .before .before .before in
+    rw (no-context (f .before .before .before), no-mapping f, no-access e, sym (c .before .are-same4 .ensures) ∙ c .if4 .taken)
+
+returns-5 : tie.Need-returns-5
+unfolding tableNamed
+returns-5 c = let e = c .before .before .before in
+    let f = e .before .before .before in
+    rw (no-context (f .before .before .before), no-mapping f, no-access e, sym (c .before .are-same4 .ensures) ∙ c .if4 .left)
+
+pub table-named-spec : {M : Type 1} → statement M
+table-named-spec =
+    tie.close
+    (tie.spec
+    slice-aggregate-are-same
+    are-same-requires
+    returns
+    slice-aggregate-are-same-2
+    are-same-requires-2
+    returns-2
+    slice-aggregate-are-same-3
+    are-same-requires-3
+    returns-3
+    slice-aggregate-are-same-4
+    are-same-requires-4
+    returns-4
+    returns-5)
