@@ -1,14 +1,15 @@
--- Laws of `moved` and `spliced`. One element more in front of those that are moved on, or behind those that are moved back, is one store,
--- since the place that is read still has what stood there. `new` goes where the elements moved away from, which makes the list spliced.
--- For the callers: a spliced list has its old length and its old front, and in a list of parts `new` is in one part's place. Assumes nothing.
+-- Laws of `moved` and `spliced`. To move elements in front of those that are moved on, or behind those that are moved back, is to move more,
+-- since the places that are read still have what stood there; one store moves one element. `new` goes where the elements moved away from,
+-- which makes the list spliced. For the callers: a spliced list has its old length and its old front, and in a list of parts `new` is in one
+-- part's place. Assumes nothing.
 use mathlib.Core.Path.{_≡_, sym, ap, ap₂, _∙_}
-use mathlib.Core.List.{List, [], _∷_, _++_, append-assoc}
-use Prim.Native.Nat.{ℕ, suc, _+_, _-_, _≤_, _<_}
+use mathlib.Core.List.{List, [], _++_, append-assoc, append-nil}
+use Prim.Native.Nat.{ℕ, _+_, _-_, _≤_, _<_}
 use native.Mathlib.Nat.{add-zero}
 use native.Mathlib.Numerals.{add-one}
 use native.Mathlib.Omega.{arith}
-use lib.ListN.{length, take, drop, getD, set, length-append, length-drop, take-append-drop, List·getD-append}
-use lib.Seq.{append-snoc, drop-at, drop-cons, getD-append-add, getD-drop, getD-take, length-paste-head, length-take-le, paste, paste-suc, set-append-left, take-append-le, take-at, take-length, take-set-lt, take-suc-set, take-take}
+use lib.ListN.{length, take, drop, getD, set, drop-of-length-le, length-append, length-drop, take-append-drop}
+use lib.Seq.{drop-append-le, drop-at, drop-cons, drop-drop, drop-paste, length-take-le, paste, set-split, take-add, take-append-le, take-at, take-length, take-paste, take-take}
 use Rattle.splice.specs.Splice.{moved, spliced}
 
 -- nothing is moved yet
@@ -17,57 +18,101 @@ moved-none w from to =
     let e : from - from ≡ 0 = omega arith in
     rw (e, add-zero) (sym (take-append-drop to w))
 
--- one element more in front of those that are moved on
-set-moved-front : (w : List ℕ) (k end to : ℕ) → k < end → k ≤ to → to + (end - k) ≤ length w
-    → set (moved w (suc k) end (suc to)) to (getD (moved w (suc k) end (suc to)) k 0) ≡ moved w k end to
-set-moved-front w k end to h l r =
-    let x : ℕ = getD w k 0 in
-    let m : end - k ≡ suc (end - suc k) = omega arith in
-    let n : suc to + (end - suc k) ≡ to + suc (end - suc k) = omega arith in
-    let back : List ℕ = take (end - suc k) (drop (suc k) w) ++ drop (suc to + (end - suc k)) w in
-    let len : length (take (suc to) w) ≡ suc to = length-take-le (suc to) w (omega arith) in
-    let read : getD (take (suc to) w ++ back) k 0 ≡ x = List·getD-append (take (suc to) w) back 0 k (omega arith) ∙ getD-take (suc to) w k 0 (omega arith) in
-    let store : set (take (suc to) w) to x ≡ take to w ++ (x ∷ []) = sym (take-set-lt (suc to) w to x (omega arith)) ∙ take-suc-set w to x (omega arith) in
-    let some : k < length w = omega arith in
-    rw (read, set-append-left (take (suc to) w) back to x (omega arith), store, append-snoc, n, m, drop-cons w k 0)
+-- to its own place: nothing changes
+pub moved-same : (w : List ℕ) (from end : ℕ) → w ≡ moved w from end from
+moved-same w from end =
+    let n : ℕ = end - from in
+    rw (← drop-drop n from w, take-append-drop n (drop from w)) (sym (take-append-drop from w))
 
 -- what is moved is a copy of what stands at `from`
 moved-paste : (w : List ℕ) (from end to : ℕ) → moved w from end to ≡ paste w to (drop from w) (end - from)
 moved-paste w from end to = sym (append-assoc (take to w) (take (end - from) (drop from w)) (drop (to + (end - from)) w))
 
--- one element more behind those that are moved back
-set-moved-back : (w : List ℕ) (from k to : ℕ) → to ≤ from → from ≤ k → k < length w
-    → set (moved w from k to) (to + (k - from)) (getD (moved w from k to) k 0) ≡ moved w from (suc k) to
-set-moved-back w from k to l h r =
-    let s : List ℕ = drop from w in
-    let n : ℕ = k - from in
-    let m : suc n ≡ suc k - from = omega arith in
-    let ls : length s ≡ length w - from = length-drop from w in
-    let front : List ℕ = take to w ++ take n s in
-    let len : length front ≡ to + n = length-paste-head w to s n (omega arith) (omega arith) in
-    let place : k ≡ length front + (from - to) = omega arith in
-    let read : getD (paste w to s n) k 0 ≡ getD s n 0 =
-    ap (λ (i : ℕ). getD (paste w to s n) i 0) place
-    ∙ getD-append-add front (drop (to + n) w) (from - to) 0
-    ∙ getD-drop (to + n) w (from - to) 0
-    ∙ ap (λ (i : ℕ). getD w i 0) (omega arith)
-    ∙ sym (getD-drop from w n 0) in
-    rw (moved-paste w from k to, moved-paste w from (suc k) to, read, ← m) (paste-suc w to s n 0 (omega arith) (omega arith))
+-- a part that lies in a list's front
+part-front : (k i : ℕ) (a b : List ℕ) → i + k ≤ length a → take k (drop i (a ++ b)) ≡ take k (drop i a)
+part-front k i a b h =
+    let l : length (drop i a) ≡ length a - i = length-drop i a in
+    rw (drop-append-le i a b (omega arith)) (take-append-le k (drop i a) b (omega arith))
 
--- the same as the two loops have it, of a list that is moved so far
-pub moved-front : (w₀ w : List ℕ) (j end by : ℕ) → w ≡ moved w₀ j end (j + by) → 0 < j → j ≤ end → end + by ≤ length w₀
-    → set w (j - 1 + by) (getD w (j - 1) 0) ≡ moved w₀ (j - 1) end (j - 1 + by)
-moved-front w₀ w j end by e p h r =
-    let n : j ≡ suc (j - 1) = omega arith in
-    let m : j + by ≡ suc (j - 1 + by) = omega arith in
-    let u : w ≡ moved w₀ (suc (j - 1)) end (suc (j - 1 + by)) = e ∙ ap₂ (λ (p q : ℕ). moved w₀ p end q) n m in
-    rw u (set-moved-front w₀ (j - 1) end (j - 1 + by) (omega arith) (omega arith) (omega arith))
+-- k elements more in front of those that are moved on
+module _ (w : List ℕ) (i k end to : ℕ) (h : i + k ≤ end) (l : i ≤ to) (r : to + (end - i) ≤ length w) where
+  front-moved : moved (moved w (i + k) end (to + k)) i (i + k) to ≡ moved w i end to
+  front-moved =
+      let n : ℕ = end - (i + k) in
+      let a : List ℕ = take (to + k) w in
+      let back : List ℕ = take n (drop (i + k) w) ++ drop (to + k + n) w in
+      let len : length a ≡ to + k = length-take-le (to + k) w (omega arith) in
+      let front : take to (a ++ back) ≡ take to w = take-append-le to a back (omega arith) ∙ take-take to (to + k) w (omega arith) in
+      let was : take k (drop i a) ≡ take k (drop i w) =
+      sym (part-front k i a (drop (to + k) w) (omega arith)) ∙ ap (λ (u : List ℕ). take k (drop i u)) (take-append-drop (to + k) w) in
+      let part : take k (drop i (a ++ back)) ≡ take k (drop i w) = part-front k i a back (omega arith) ∙ was in
+      let behind : drop (to + k) (a ++ back) ≡ back = drop-at a back (to + k) len in
+      let p : end - i ≡ k + n = omega arith in
+      let both : take (end - i) (drop i w) ≡ take k (drop i w) ++ take n (drop (i + k) w) =
+      ap (λ (m : ℕ). take m (drop i w)) p ∙ take-add k n (drop i w) ∙ ap (λ (u : List ℕ). take k (drop i w) ++ take n u) (drop-drop k i w) in
+      let e : i + k - i ≡ k = omega arith in
+      let m : to + (end - i) ≡ to + k + n = omega arith in
+      rw (e, front, part, behind, both, m, append-assoc)
 
-pub moved-back : (w₀ w : List ℕ) (from j by : ℕ) → w ≡ moved w₀ from j (from - by) → by ≤ from → from ≤ j → j < length w₀
-    → set w (j - by) (getD w j 0) ≡ moved w₀ from (j + 1) (from - by)
-moved-back w₀ w from j by e p h r =
+-- k elements more behind those that are moved back
+module _ (w : List ℕ) (from j k to : ℕ) (l : to ≤ from) (h : from ≤ j) (r : j ≤ length w) where
+  back-moved : moved (moved w from j to) j (j + k) (to + (j - from)) ≡ moved w from (j + k) to
+  back-moved =
+      let n : ℕ = j - from in
+      let s : List ℕ = drop from w in
+      let d : List ℕ = paste w to s n in
+      let ls : length s ≡ length w - from = length-drop from w in
+      let front : take (to + n) d ≡ take to w ++ take n s = take-paste w to s n (omega arith) (omega arith) in
+      let behind : drop (to + n) d ≡ drop (to + n) w = drop-paste w to s n (omega arith) (omega arith) in
+      let rest : (m : ℕ) → drop (to + n + m) d ≡ drop (to + n + m) w =
+      λ m. sym (drop-drop m (to + n) d) ∙ ap (λ (u : List ℕ). drop m u) behind ∙ drop-drop m (to + n) w in
+      let i : j ≡ to + n + (from - to) = omega arith in
+      let part : drop j d ≡ drop j w = ap (λ (m : ℕ). drop m d) i ∙ rest (from - to) ∙ ap (λ (m : ℕ). drop m w) (sym i) in
+      let q : from + n ≡ j = omega arith in
+      let p : j + k - from ≡ n + k = omega arith in
+      let both : take (j + k - from) s ≡ take n s ++ take k (drop j w) =
+      ap (λ (m : ℕ). take m s) p ∙ take-add n k s ∙ ap (λ (u : List ℕ). take n s ++ take k u) (drop-drop n from w ∙ ap (λ (m : ℕ). drop m w) q) in
+      let e : j + k - j ≡ k = omega arith in
+      let m : to + (j + k - from) ≡ to + n + k = omega arith in
+      rw (moved-paste w from j to, e, front, part, rest k, both, m) (simp append-assoc)
+
+-- one store moves one element
+pub moved-one : (w : List ℕ) (from to : ℕ) → from < length w → to < length w
+    → set w to (getD w from 0) ≡ moved w from (from + 1) to
+moved-one w from to h l =
+    let e : from + 1 - from ≡ 1 = omega arith in
+    rw (e, drop-cons w from 0 h, add-one) (set-split w to (getD w from 0) l)
+
+-- the same as the loops have it, of a list that is moved so far
+pub moved-front : (w₀ w : List ℕ) (i m j end by : ℕ) → w ≡ moved w₀ j end (j + by) → m ≡ j → i ≤ j → j ≤ end → end + by ≤ length w₀
+    → moved w i m (i + by) ≡ moved w₀ i end (i + by)
+moved-front w₀ w i m j end by e x h l r =
+    let k : ℕ = j - i in
+    let y : m ≡ i + k = omega arith in
+    let n : j ≡ i + k = omega arith in
+    let o : j + by ≡ i + by + k = omega arith in
+    let u : w ≡ moved w₀ (i + k) end (i + by + k) = e ∙ ap₂ (λ (p q : ℕ). moved w₀ p end q) n o in
+    rw (u, y) (front-moved w₀ i k end (i + by) (omega arith) (omega arith) (omega arith))
+
+pub moved-back : (w₀ w : List ℕ) (from j m by : ℕ) → w ≡ moved w₀ from j (from - by) → by ≤ from → from ≤ j → j ≤ m → m ≤ length w₀
+    → moved w j m (j - by) ≡ moved w₀ from m (from - by)
+moved-back w₀ w from j m by e p h l r =
+    let y : m ≡ j + (m - j) = omega arith in
     let n : j - by ≡ from - by + (j - from) = omega arith in
-    rw (n, add-one, e) (set-moved-back w₀ from j (from - by) (omega arith) h r)
+    rw (n, y, e) (back-moved w₀ from j (m - j) (from - by) (omega arith) h (omega arith))
+
+-- a part that is copied into a block as long as it, and from there to `to`, is moved
+pub moved-block : (w w₁ z b : List ℕ) (k from to : ℕ) → length z ≡ k → from + k ≤ length w
+    → let s : List ℕ = take (from + k - from) (drop from w) in
+    b ≡ paste z 0 s (length s) → w₁ ≡ paste w to b (length b) → w₁ ≡ moved w from (from + k) to
+moved-block w w₁ z b k from to h l u v =
+    let n : ℕ = from + k - from in
+    let s : List ℕ = take n (drop from w) in
+    let ld : length (drop from w) ≡ length w - from = length-drop from w in
+    let ls : length s ≡ n = length-take-le n (drop from w) (omega arith) in
+    let over : drop (0 + length s) z ≡ [] = drop-of-length-le z {i = 0 + length s} (omega arith) in
+    let q : b ≡ s = u ∙ rw (take-length s, over) (append-nil s) in
+    v ∙ rw (q, take-length s, ls) (append-assoc (take to w) s (drop (to + n) w))
 
 -- within the bounds that `splice` requires
 module _ (w : List ℕ) (at gone end : ℕ) (new : List ℕ) (h : at + gone ≤ end) (l : end ≤ length w) (r : end - gone + length new ≤ length w) where

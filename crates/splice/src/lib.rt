@@ -5,30 +5,6 @@ ghost use lib.ListN.{length};
 ghost use lib.Seq.{paste};
 ghost use Rattle.splice.specs.Splice.{spliced, moved};
 
-// Moves the octets from `from` up to `end` on by `by`, the last first.
-fn move_up(w: &mut [u8], from: usize, end: usize, by: usize)
-    requires { ⌜ (from ≤ end) × (end + by ≤ length (now w)) ⌝ }
-    ensures { λ _. ⌜ now (w .exit) ≡ moved (now (w .entry)) from end (from + by) ⌝ }
-{
-    let mut j = end;
-    while from < j {
-        j -= 1;
-        w[j + by] = w[j];
-    }
-}
-
-// Moves the octets from `from` up to `end` back by `by`, the first first.
-fn move_down(w: &mut [u8], from: usize, end: usize, by: usize)
-    requires { ⌜ (by ≤ from) × (from ≤ end) × (end ≤ length (now w)) ⌝ }
-    ensures { λ _. ⌜ now (w .exit) ≡ moved (now (w .entry)) from end (from - by) ⌝ }
-{
-    let mut j = from;
-    while j < end {
-        w[j - by] = w[j];
-        j += 1;
-    }
-}
-
 // Copies `new` into w from `at` on.
 pub fn copy_in(w: &mut [u8], at: usize, new: &[u8])
     requires { ⌜ at + length (now new) ≤ length (now w) ⌝ }
@@ -43,6 +19,67 @@ pub fn copy_in(w: &mut [u8], at: usize, new: &[u8])
     }
 }
 
+// Moves the 64 octets at `from` to `to`. All are read before one is stored, so that they become wide loads and stores.
+fn move_block(w: &mut [u8], from: usize, to: usize)
+    requires { ⌜ (from + 64 ≤ length (now w)) × (to + 64 ≤ length (now w)) ⌝ }
+    ensures { λ _. ⌜ now (w .exit) ≡ moved (now (w .entry)) from (from + 64) to ⌝ }
+{
+    let mut block = [0u8; 64];
+    let stop = from + 64;
+    copy_in(&mut block, 0, &w[from..stop]);
+    copy_in(w, to, &block);
+}
+
+// Moves blocks from `end` on by `by`, the last first, while one fits behind `from`, and says from where on.
+fn move_blocks_up(w: &mut [u8], from: usize, end: usize, by: usize) -> usize
+    requires { ⌜ (from ≤ end) × (end + by ≤ length (now w)) ⌝ }
+    ensures { λ r. ⌜ (from ≤ r) × (r ≤ end) × (now (w .exit) ≡ moved (now (w .entry)) r end (r + by)) ⌝ }
+{
+    let mut j = end;
+    while 64 <= j - from {
+        j -= 64;
+        move_block(w, j, j + by);
+    }
+    j
+}
+
+// Moves the octets from `from` up to `end` on by `by`, the last first.
+fn move_up(w: &mut [u8], from: usize, end: usize, by: usize)
+    requires { ⌜ (from ≤ end) × (end + by ≤ length (now w)) ⌝ }
+    ensures { λ _. ⌜ now (w .exit) ≡ moved (now (w .entry)) from end (from + by) ⌝ }
+{
+    let mut j = move_blocks_up(w, from, end, by);
+    while from < j {
+        j -= 1;
+        w[j + by] = w[j];
+    }
+}
+
+// Moves blocks from `from` back by `by`, the first first, while one fits in front of `end`, and says up to where.
+fn move_blocks_down(w: &mut [u8], from: usize, end: usize, by: usize) -> usize
+    requires { ⌜ (by ≤ from) × (from ≤ end) × (end ≤ length (now w)) ⌝ }
+    ensures { λ r. ⌜ (from ≤ r) × (r ≤ end) × (now (w .exit) ≡ moved (now (w .entry)) from r (from - by)) ⌝ }
+{
+    let mut j = from;
+    while 64 <= end - j {
+        move_block(w, j, j - by);
+        j += 64;
+    }
+    j
+}
+
+// Moves the octets from `from` up to `end` back by `by`, the first first.
+fn move_down(w: &mut [u8], from: usize, end: usize, by: usize)
+    requires { ⌜ (by ≤ from) × (from ≤ end) × (end ≤ length (now w)) ⌝ }
+    ensures { λ _. ⌜ now (w .exit) ≡ moved (now (w .entry)) from end (from - by) ⌝ }
+{
+    let mut j = move_blocks_down(w, from, end, by);
+    while j < end {
+        w[j - by] = w[j];
+        j += 1;
+    }
+}
+
 // The `gone` octets at `at` give way to `new`, and what stands behind them up to `end` follows.
 pub fn splice(w: &mut [u8], at: usize, gone: usize, end: usize, new: &[u8])
     requires { ⌜ (at + gone ≤ end) × (end ≤ length (now w)) × (end - gone + length (now new) ≤ length (now w)) ⌝ }
@@ -52,7 +89,7 @@ pub fn splice(w: &mut [u8], at: usize, gone: usize, end: usize, new: &[u8])
     let from = at + gone;
     if gone < n {
         move_up(w, from, end, n - gone);
-    } else {
+    } else if n < gone {
         move_down(w, from, end, gone - n);
     }
     copy_in(w, at, new);

@@ -1,5 +1,5 @@
--- `splice::splice` meets its contract. Either arm moves what stands behind the part from `at + gone` to `at + n`, n being the length of
--- `new`: up by `n - gone`, or down by `gone - n`. So where the arms meet the list is moved, and `copy_in` puts `new` where the elements
+-- `splice::splice` meets its contract. Each arm moves what stands behind the part from `at + gone` to `at + n`, n being the length of
+-- `new`: up by `n - gone`, or down by `gone - n`, or not at all where the two are equal. So where the arms meet the list is moved, and `copy_in` puts `new` where the elements
 -- moved away from. Assumes nothing.
 use mathlib.Core.Path.{_≡_, ap, _∙_}
 use mathlib.Core.List.{List}
@@ -10,7 +10,7 @@ use lib.ListN.{length}
 use lib.Seq.{paste}
 use borrow.Author.Needs.{needs}
 use Rattle.splice.specs.Splice.{moved}
-use Rattle.splice.proofs.Laws.{paste-moved}
+use Rattle.splice.proofs.Laws.{moved-same, paste-moved}
 use Rattle.splice.proofs.splice.Statement.{statement}
 use Rattle.splice.proofs.splice.Tie as tie
 
@@ -34,11 +34,13 @@ both-moved c =
     let n : ℕ = length (s .new .now) in
     ⊎-elim
     (λ a. let e : s .at + n ≡ s .at + s .gone + (n - s .gone) = omega arith in rw (a .5, e) (a .2 .ensures))
-    (λ a. let e : s .at + n ≡ s .at + s .gone - (s .gone - n) = omega arith in rw (a .5, e) (a .2 .ensures))
+    (⊎-elim
+    (λ a. let e : s .at + n ≡ s .at + s .gone - (s .gone - n) = omega arith in rw (a .6, e) (a .3 .ensures))
+    (λ a. let e : s .at + n ≡ s .at + s .gone = omega arith in rw (a .2, e) (moved-same (s .w .now) (s .at + s .gone) (s .end))))
     (c .if1 .came)
 
 both-length : (c : tie.Joined1) → length (c .if1 .w) ≡ length (c .before .before .before .args .w .now)
-both-length c = ⊎-elim (λ a. search needs) (λ a. search needs) (c .if1 .came)
+both-length c = ⊎-elim (λ a. search needs) (⊎-elim (λ a. search needs) (λ a. search needs)) (c .if1 .came)
 
 copy-in-requires : tie.Need-copy-in-requires
 copy-in-requires c κs = let e = both-length (c .before) in search needs

@@ -1,0 +1,431 @@
+//! The proved code beside the hand-written implementation: one process, the same input, both release builds. Prints a table of
+//! ratios (proved / hand-written): the median over batches that alternate, with the least and the greatest.
+//!
+//!     benchmark [--batches N] [--milliseconds N]
+
+#[cfg(not(agent_linked))]
+compile_error!("the archive libagent.a is not there: build it by `rt staticlib agent`, or name its folder in DUGWALEN_STATICLIB_DIR");
+
+use beside::handwritten;
+use beside::reference::image;
+use beside::reference::ridge;
+use beside::reference::rows::*;
+use beside::reference::tables::Tables;
+use std::hint::black_box;
+use std::process::ExitCode;
+
+// ---- the proved code
+
+mod proved {
+    use beside::handwritten::Request;
+
+    extern "C" {
+        fn dugwalen_is_access_allowed(
+            image: *const u8,
+            image_len: usize,
+            security_model: u32,
+            security_name: *const u8,
+            security_name_len: usize,
+            security_level: u32,
+            view_type: u32,
+            context_name: *const u8,
+            context_name_len: usize,
+            variable_name: *const u8,
+            variable_name_len: usize,
+        ) -> u32;
+    }
+
+    // SAFETY, here and below: each pointer comes with the length of its own slice, and what is written is lent alone.
+    pub fn is_access_allowed(image: &[u8], r: &Request, variable: &[u8]) -> u32 {
+        unsafe {
+            dugwalen_is_access_allowed(
+                image.as_ptr(),
+                image.len(),
+                r.model,
+                r.name.as_ptr(),
+                r.name.len(),
+                r.level,
+                r.kind,
+                r.context.as_ptr(),
+                r.context.len(),
+                variable.as_ptr(),
+                variable.len(),
+            )
+        }
+    }
+
+    #[cfg(feature = "store")]
+    pub mod store {
+        use super::Request;
+        use beside::handwritten::ROOM;
+
+        extern "C" {
+            fn bench_decide(
+                store: *const u8,
+                store_len: usize,
+                model: u32,
+                name: *const u8,
+                name_len: usize,
+                level: u32,
+                view_type: u32,
+                context: *const u8,
+                context_len: usize,
+                variable: *const u32,
+                variable_len: usize,
+            ) -> u32;
+            fn bench_owner_put(store: *mut u8, store_len: usize, table: u32, row: *const u8, row_len: usize) -> u32;
+            fn bench_owner_remove(store: *mut u8, store_len: usize, table: u32, key: *const u8, key_len: usize) -> u32;
+            fn bench_read_image(image: *const u8, image_len: usize, store: *mut [u8; ROOM]) -> u32;
+            fn bench_write_image(store: *const u8, store_len: usize, out: *mut u8, out_len: usize) -> u64;
+        }
+
+        pub fn decide(store: &[u8], r: &Request, variable: &[u32]) -> u32 {
+            unsafe {
+                bench_decide(
+                    store.as_ptr(),
+                    store.len(),
+                    r.model,
+                    r.name.as_ptr(),
+                    r.name.len(),
+                    r.level,
+                    r.kind,
+                    r.context.as_ptr(),
+                    r.context.len(),
+                    variable.as_ptr(),
+                    variable.len(),
+                )
+            }
+        }
+
+        pub fn owner_put(store: &mut [u8], table: u32, row: &[u8]) -> u32 {
+            unsafe { bench_owner_put(store.as_mut_ptr(), store.len(), table, row.as_ptr(), row.len()) }
+        }
+
+        pub fn owner_remove(store: &mut [u8], table: u32, key: &[u8]) -> u32 {
+            unsafe { bench_owner_remove(store.as_mut_ptr(), store.len(), table, key.as_ptr(), key.len()) }
+        }
+
+        pub fn read_image(image: &[u8], store: &mut [u8; ROOM]) -> u32 {
+            unsafe { bench_read_image(image.as_ptr(), image.len(), store) }
+        }
+
+        pub fn write_image(store: &[u8], out: &mut [u8]) -> u64 {
+            unsafe { bench_write_image(store.as_ptr(), store.len(), out.as_mut_ptr(), out.len()) }
+        }
+    }
+}
+
+// ---- measuring
+
+/// Processor time of this thread in nanoseconds, so that other programs on the machine count less (x86-64 Linux).
+fn now() -> u128 {
+    #[repr(C)]
+    struct Time {
+        seconds: i64,
+        nanoseconds: i64,
+    }
+    extern "C" {
+        fn clock_gettime(clock: i32, time: *mut Time) -> i32;
+    }
+    const CLOCK_THREAD_CPUTIME_ID: i32 = 3;
+    let mut time = Time { seconds: 0, nanoseconds: 0 };
+    // SAFETY: the call writes one such struct.
+    let status = unsafe { clock_gettime(CLOCK_THREAD_CPUTIME_ID, &mut time) };
+    assert_eq!(status, 0, "no clock of the thread's processor time");
+    time.seconds as u128 * 1_000_000_000 + time.nanoseconds as u128
+}
+
+struct Bench {
+    batches: usize,
+    nanoseconds: u128,
+    /// Answers of the two sides that differ: no figure counts then.
+    differ: bool,
+}
+
+impl Bench {
+    /// One row of the table. Each side does the work once and says its answer, which must be the same.
+    fn row(&mut self, title: &str, mut proved: impl FnMut() -> u64, mut by_hand: impl FnMut() -> u64) {
+        let (a, b) = (proved(), by_hand());
+        if a != b {
+            println!("| {title} | the answers differ: {a} and {b} | | | |");
+            self.differ = true;
+            return;
+        }
+        let times = self.times(&mut by_hand).max(self.times(&mut proved)).max(1);
+        let mut ratios = Vec::new();
+        let mut proved_time = Vec::new();
+        let mut hand_time = Vec::new();
+        for batch in 0..self.batches {
+            // the sides take turns to go first
+            let (p, h) = if batch % 2 == 0 {
+                let p = measure(times, &mut proved);
+                (p, measure(times, &mut by_hand))
+            } else {
+                let h = measure(times, &mut by_hand);
+                (measure(times, &mut proved), h)
+            };
+            proved_time.push(p);
+            hand_time.push(h);
+            ratios.push(p / h);
+        }
+        for list in [&mut ratios, &mut proved_time, &mut hand_time] {
+            list.sort_by(f64::total_cmp);
+        }
+        let middle = self.batches / 2;
+        println!(
+            "| {title} | {} | {} | {:.2} | {:.2} to {:.2} |",
+            shown(proved_time[middle]),
+            shown(hand_time[middle]),
+            ratios[middle],
+            ratios[0],
+            ratios[self.batches - 1]
+        );
+    }
+
+    /// How many calls fill a batch.
+    fn times(&self, work: &mut impl FnMut() -> u64) -> u32 {
+        let mut times: u32 = 1;
+        loop {
+            let start = now();
+            for _ in 0..times {
+                black_box(work());
+            }
+            let passed = now() - start;
+            if passed >= self.nanoseconds / 4 || times > 1 << 24 {
+                return (u128::from(times) * self.nanoseconds / passed.max(1)).min(1 << 26) as u32;
+            }
+            times *= 2;
+        }
+    }
+}
+
+fn measure(times: u32, work: &mut impl FnMut() -> u64) -> f64 {
+    let start = now();
+    for _ in 0..times {
+        black_box(work());
+    }
+    (now() - start) as f64 / f64::from(times)
+}
+
+fn shown(nanoseconds: f64) -> String {
+    if nanoseconds < 10_000.0 {
+        format!("{nanoseconds:.0} ns")
+    } else {
+        format!("{:.1} us", nanoseconds / 1000.0)
+    }
+}
+
+// ---- the tables
+
+const MODEL: u32 = 3;
+
+fn name(base: u8, last: usize) -> Name {
+    let mut name = vec![base; NAME_LIMIT];
+    name[NAME_LIMIT - 1] = last as u8;
+    name
+}
+
+fn subtree(last: usize) -> Identifier {
+    let mut subtree = vec![1; SUBTREE_LIMIT];
+    subtree[SUBTREE_LIMIT - 1] = last as u32;
+    subtree
+}
+
+fn mapping(i: usize, group: Name) -> Row {
+    Row::Mapping(Mapping { model: MODEL, name: name(b'n', i), group, storage: 3, status: 1 })
+}
+
+/// Completely full tables: names of 32 octets, and one view of 96 rows whose 64 parts are equal up to the last.
+fn full() -> Tables {
+    let view = name(b'v', 0);
+    let mut tables = Tables::default();
+    for i in 0..16 {
+        tables.put(Row::Context(Context { name: name(b'c', i) }));
+    }
+    for i in 0..64 {
+        tables.put(mapping(i, name(b'g', i)));
+        tables.put(Row::Access(Access {
+            group: name(b'g', i),
+            prefix: name(b'c', 15),
+            model: MODEL,
+            level: 1,
+            matching: 1,
+            read: view.clone(),
+            write: view.clone(),
+            notify: view.clone(),
+            storage: 3,
+            status: 1,
+        }));
+    }
+    for i in 0..96 {
+        tables.put(Row::View(View { name: view.clone(), subtree: subtree(i), mask: vec![0xff; MASK_LIMIT], kind: 1, storage: 3, status: 1 }));
+    }
+    tables
+}
+
+struct Asked {
+    title: &'static str,
+    image: Vec<u8>,
+    name: Name,
+    context: Name,
+    level: u32,
+    variable: Identifier,
+}
+
+impl Asked {
+    fn request(&self) -> handwritten::Request<'_> {
+        handwritten::Request { model: MODEL, name: &self.name, level: self.level, kind: 1, context: &self.context }
+    }
+}
+
+fn asked() -> Vec<Asked> {
+    let p1 = ridge::request(3, 1, &[8, 2]);
+    let full = image::write(&full());
+    assert_eq!(full.len(), image::LARGEST);
+    // the last principal, group, context and view row decide; or no view row matches
+    let on_full = |title, variable| Asked { title, image: full.clone(), name: name(b'n', 63), context: name(b'c', 15), level: 3, variable };
+    vec![
+        Asked {
+            title: "the Ridge tables, P1",
+            image: image::write(&ridge::tables()),
+            name: p1.name,
+            context: p1.context,
+            level: 3,
+            variable: p1.variable,
+        },
+        on_full("full tables, the last view row decides", subtree(95)),
+        on_full("full tables, no view row matches", subtree(96)),
+    ]
+}
+
+// ---- the rows of the table
+
+fn agent_rows(bench: &mut Bench) {
+    for asked in asked() {
+        let variable: Vec<u8> = asked.variable.iter().flat_map(|part| part.to_be_bytes()).collect();
+        let request = asked.request();
+        bench.row(
+            &format!("C call, {}", asked.title),
+            || u64::from(proved::is_access_allowed(black_box(&asked.image), black_box(&request), black_box(&variable))),
+            || u64::from(handwritten::is_access_allowed(black_box(&asked.image), black_box(&request), black_box(&variable))),
+        );
+    }
+}
+
+#[cfg(feature = "store")]
+fn store_rows(bench: &mut Bench) {
+    use beside::random::Random;
+    use handwritten::ROOM;
+    use proved::store;
+
+    let store_of = |image: &[u8]| {
+        let mut store = Box::new([0u8; ROOM]);
+        assert_eq!(handwritten::read_image(image, &mut store), 0);
+        store
+    };
+    for asked in asked() {
+        let lent = store_of(&asked.image);
+        let request = asked.request();
+        bench.row(
+            &format!("decision on a store, {}", asked.title),
+            || u64::from(store::decide(black_box(&lent[..]), black_box(&request), black_box(&asked.variable))),
+            || u64::from(handwritten::store_decide(black_box(&lent[..]), black_box(&request), black_box(&asked.variable))),
+        );
+    }
+
+    let full = full();
+    let image = image::write(&full);
+    let first = image::row_bytes(&mapping(0, name(b'g', 0)));
+    let short = image::row_bytes(&mapping(0, vec![b'g']));
+    let context = image::row_bytes(&full.rows()[0]);
+    let (mut a, mut b) = (store_of(&image), store_of(&image));
+    bench.row(
+        "put that replaces the first mapping row, same length",
+        || u64::from(store::owner_put(black_box(&mut a[..]), 1, black_box(&first))),
+        || u64::from(handwritten::owner_put(black_box(&mut b[..]), 1, black_box(&first))),
+    );
+    bench.row(
+        "two puts that replace the first mapping row, shorter, then longer",
+        || u64::from(store::owner_put(black_box(&mut a[..]), 1, black_box(&short)) | store::owner_put(black_box(&mut a[..]), 1, black_box(&first))),
+        || {
+            u64::from(
+                handwritten::owner_put(black_box(&mut b[..]), 1, black_box(&short))
+                    | handwritten::owner_put(black_box(&mut b[..]), 1, black_box(&first)),
+            )
+        },
+    );
+    bench.row(
+        "removal and put of the first context row",
+        || {
+            u64::from(
+                store::owner_remove(black_box(&mut a[..]), 0, black_box(&context)) | store::owner_put(black_box(&mut a[..]), 0, black_box(&context)),
+            )
+        },
+        || {
+            u64::from(
+                handwritten::owner_remove(black_box(&mut b[..]), 0, black_box(&context))
+                    | handwritten::owner_put(black_box(&mut b[..]), 0, black_box(&context)),
+            )
+        },
+    );
+    bench.differ |= a != b;
+
+    for (title, image) in [("the Ridge tables", image::write(&ridge::tables())), ("full tables", image.clone())] {
+        bench.row(
+            &format!("image reading, {title}"),
+            || u64::from(store::read_image(black_box(&image), black_box(&mut a))),
+            || u64::from(handwritten::read_image(black_box(&image), black_box(&mut b))),
+        );
+        let mut outs = [vec![0u8; ROOM], vec![0u8; ROOM]];
+        let [out_a, out_b] = &mut outs;
+        bench.row(
+            &format!("image writing, {title}"),
+            || store::write_image(black_box(&a[..]), black_box(out_a)),
+            || handwritten::write_image(black_box(&b[..]), black_box(out_b)),
+        );
+        bench.differ |= a[..image.len()] != b[..image.len()] || outs[0] != outs[1];
+    }
+
+    let mut rows: Vec<(u32, Vec<u8>)> = full.rows().iter().map(|row| (row.table() as u32, image::row_bytes(row))).collect();
+    Random::new(3415).shuffle(&mut rows);
+    bench.row(
+        "growth from empty to full, 240 puts in random order",
+        || {
+            a[..8].fill(0);
+            rows.iter().map(|(table, row)| u64::from(store::owner_put(&mut a[..], *table, black_box(row)))).sum()
+        },
+        || {
+            b[..8].fill(0);
+            rows.iter().map(|(table, row)| u64::from(handwritten::owner_put(&mut b[..], *table, black_box(row)))).sum()
+        },
+    );
+    bench.differ |= a != b || a[..] != image[..];
+}
+
+fn main() -> ExitCode {
+    let mut bench = Bench { batches: 41, nanoseconds: 2_000_000, differ: false };
+    let mut words = std::env::args().skip(1);
+    while let Some(word) = words.next() {
+        let value = words.next().and_then(|value| value.parse::<u32>().ok()).filter(|value| *value > 0);
+        match (word.as_str(), value) {
+            ("--batches", Some(value)) => bench.batches = value as usize,
+            ("--milliseconds", Some(value)) => bench.nanoseconds = 1_000_000 * u128::from(value),
+            _ => {
+                println!("usage: benchmark [--batches N] [--milliseconds N]");
+                return ExitCode::FAILURE;
+            }
+        }
+    }
+    println!("| work | proved, median | hand-written, median | ratio, median | ratio, least to greatest |");
+    println!("|---|---|---|---|---|");
+    agent_rows(&mut bench);
+    #[cfg(feature = "store")]
+    store_rows(&mut bench);
+    println!();
+    println!("{} batches of {} ms of processor time on each side, in turn.", bench.batches, bench.nanoseconds / 1_000_000);
+    if bench.differ {
+        println!("The two sides differ: the figures do not count.");
+        return ExitCode::FAILURE;
+    }
+    ExitCode::SUCCESS
+}

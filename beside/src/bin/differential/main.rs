@@ -1,0 +1,145 @@
+//! Runs the proved code beside the reference on seeded cases: the programs `tryreq` and `trycalls`, the agent's C call, and the
+//! benchmark's hand-written implementation. The last line is 'N passed, M failed'; the exit status is 0 only where M is 0.
+//!
+//!     differential [--rounds N] [--seed S] [--part tryreq|trycalls|agent|handwritten]... [--tryreq PATH] [--trycalls PATH]
+
+mod agent;
+mod by_hand;
+mod programs;
+mod shrink;
+mod tally;
+mod trycalls;
+mod tryreq;
+
+use beside::random::Random;
+use beside::reference::lines;
+use programs::Program;
+use std::path::{Path, PathBuf};
+use std::process::ExitCode;
+use std::time::Instant;
+use tally::{Tally, IMAGE_PLACES};
+
+struct Settings {
+    rounds: usize,
+    seed: u64,
+    parts: Vec<String>,
+    tryreq: PathBuf,
+    trycalls: PathBuf,
+}
+
+fn settings() -> Result<Settings, String> {
+    let built = |name: &str, variable: &str| match std::env::var_os(variable) {
+        Some(path) => PathBuf::from(path),
+        None => Path::new(env!("CARGO_MANIFEST_DIR")).join("../target/bin").join(name),
+    };
+    let mut settings = Settings {
+        rounds: 20,
+        seed: 3415,
+        parts: Vec::new(),
+        tryreq: built("tryreq", "DUGWALEN_TRYREQ"),
+        trycalls: built("trycalls", "DUGWALEN_TRYCALLS"),
+    };
+    let mut words = std::env::args().skip(1);
+    while let Some(word) = words.next() {
+        let value = words.next().ok_or(format!("{word} wants a value"))?;
+        match word.as_str() {
+            "--rounds" => settings.rounds = value.parse().map_err(|_| "--rounds wants a number")?,
+            "--seed" => settings.seed = value.parse().map_err(|_| "--seed wants a number")?,
+            "--part" if ["tryreq", "trycalls", "agent", "handwritten"].contains(&value.as_str()) => settings.parts.push(value),
+            "--tryreq" => settings.tryreq = value.into(),
+            "--trycalls" => settings.trycalls = value.into(),
+            _ => return Err(format!("no such option: {word} {value}")),
+        }
+    }
+    Ok(settings)
+}
+
+const CAUSES: &[&str] = &["0", "1", "2", "3", "4", "5", "7"];
+
+fn program_part(tally: &mut Tally, settings: &Settings, name: &'static str) -> Result<(), String> {
+    let mut random = Random::new(settings.seed);
+    match name {
+        "tryreq" => {
+            let mut program = Program::new(name, &settings.tryreq, lines::tryreq)?;
+            tryreq::run(tally, &mut random, &mut program, settings.rounds);
+            tally.require(name, IMAGE_PLACES);
+            tally.require(name, &[("request", CAUSES), ("line over 2,048 bytes", &["7"])]);
+        }
+        _ => {
+            let mut program = Program::new(name, &settings.trycalls, lines::trycalls)?;
+            trycalls::run(tally, &mut random, &mut program, settings.rounds);
+            tally.require(name, IMAGE_PLACES);
+            tally.require(
+                name,
+                &[
+                    ("decide", CAUSES),
+                    ("owner put", &["0", "7", "9"]),
+                    ("owner remove", &["0", "7", "10"]),
+                    ("principal put", &["0", "1", "2", "3", "4", "5", "7", "9", "11", "12"]),
+                    ("principal remove", &["0", "1", "2", "3", "4", "5", "7", "10", "11", "12"]),
+                    ("encode", &["oid", "7"]),
+                    ("decode", &["instance", "13"]),
+                    ("image", &["image"]),
+                    ("malformed line", &["7"]),
+                    ("line over 2,048 bytes", &["7"]),
+                    ("pairs of lists of demand 3", &["alike"]),
+                ],
+            );
+        }
+    }
+    Ok(())
+}
+
+fn call_part(tally: &mut Tally, settings: &Settings, name: &'static str) -> Result<(), String> {
+    let mut random = Random::new(settings.seed);
+    if name == "handwritten" {
+        by_hand::edits(tally, &mut random, settings.rounds);
+        agent::run(tally, &mut random, name, by_hand::call, settings.rounds);
+    } else {
+        #[cfg(agent_linked)]
+        agent::run(tally, &mut random, name, agent::linked::call, settings.rounds);
+        #[cfg(not(agent_linked))]
+        return Err("the archive libagent.a was not there when this was built".to_string());
+    }
+    tally.require(name, IMAGE_PLACES);
+    tally.require(name, &[("decision", CAUSES)]);
+    Ok(())
+}
+
+fn main() -> ExitCode {
+    let settings = match settings() {
+        Ok(settings) => settings,
+        Err(why) => {
+            println!("{why}");
+            println!("0 passed, 1 failed");
+            return ExitCode::FAILURE;
+        }
+    };
+    let mut tally = Tally::default();
+    for part in ["handwritten", "agent", "tryreq", "trycalls"] {
+        if !settings.parts.is_empty() && !settings.parts.iter().any(|asked| asked == part) {
+            continue;
+        }
+        let start = Instant::now();
+        let before = (tally.passed, tally.failed);
+        tally.mismatches = 0;
+        let ran = match part {
+            "tryreq" | "trycalls" => program_part(&mut tally, &settings, part),
+            _ => call_part(&mut tally, &settings, part),
+        };
+        tally.check(ran.is_ok(), || format!("{part}: {}", ran.unwrap_err()));
+        let seconds = start.elapsed().as_secs_f64();
+        println!("{part}: {} passed, {} failed, {seconds:.1} s", tally.passed - before.0, tally.failed - before.1);
+    }
+    println!();
+    for ((part, place), times) in &tally.met {
+        println!("{part:12} {place:45} {times:9}");
+    }
+    println!();
+    println!("{} passed, {} failed", tally.passed, tally.failed);
+    if tally.failed == 0 {
+        ExitCode::SUCCESS
+    } else {
+        ExitCode::FAILURE
+    }
+}

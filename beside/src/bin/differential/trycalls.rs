@@ -1,0 +1,198 @@
+//! The part trycalls: lists of calls, edits into every table up to its limit and past it, and pairs of lists for demand 3.
+
+use crate::programs::{compare, Input, Program};
+use crate::tally::Tally;
+use crate::tryreq::{line_ends, spelt, P12};
+use beside::generate::calls::{call, spoil_row};
+use beside::generate::damage::{beyond_largest, every_damage, one_of_each};
+use beside::generate::every::{columns, instances, ranges, storages};
+use beside::generate::lines::{every_alteration, every_wrap};
+use beside::generate::lists::{list_keeps, two_lists, Circle};
+use beside::generate::world::{self, grant, largest, tables, Size, World};
+use beside::random::Random;
+use beside::reference::edits::Edit;
+use beside::reference::image;
+use beside::reference::lines::{self, call_of, call_text, hex, Call};
+use beside::reference::ridge;
+use beside::reference::rows::*;
+use beside::reference::tables::Tables;
+
+const FRESH: [u8; 8] = [0; 8];
+
+pub fn run(tally: &mut Tally, random: &mut Random, program: &mut Program, rounds: usize) {
+    let ridge = image::write(&ridge::tables());
+    let image_line = || b"image".to_vec();
+    let example = ["owner put mapping 3 616e6e 6c65616473 3 1", "decode 1.3.6.1.6.3.16.1.2.1.5.3.3.97.110.110", "encode 5 mapping 3 616e6e", "image"];
+    let example: Vec<Vec<u8>> = example.iter().map(|line| line.as_bytes().to_vec()).collect();
+    for tables in [Some(&P12[..]), Some(&FRESH[..]), Some(&ridge[..]), Some(&b""[..]), None] {
+        compare(tally, program, tables, &Input::of(example.clone()));
+    }
+    line_ends(tally, program, &ridge, "encode 5 mapping 3 616e6e");
+    line_ends(tally, program, &ridge, "owner put mapping 3 616e6e 6c65616473 3 1");
+    for line in forms() {
+        let mut lines = every_wrap(&line);
+        lines.push(image_line());
+        for altered in every_alteration(&line) {
+            lines.push(altered);
+            if random.chance(2) {
+                lines.push(image_line());
+            }
+        }
+        lines.push(image_line());
+        compare(tally, program, Some(&ridge), &Input::of(lines));
+    }
+    for bytes in one_of_each().into_iter().chain(beyond_largest(&image::write(&largest(random)))) {
+        compare(tally, program, Some(&bytes), &Input::of(vec![image_line()]));
+    }
+    for (start, calls) in [storages(), ranges(), columns(), (Tables::default(), instances())] {
+        let lines = calls.iter().map(|call| call_text(call).into_bytes()).collect();
+        compare(tally, program, Some(&image::write(&start)), &Input::of(lines));
+    }
+    let every = every_damage(&ridge);
+    for _ in 0..10 * rounds {
+        compare(tally, program, Some(&every[random.below(every.len())]), &Input::of(vec![image_line()]));
+    }
+    for round in 0..rounds {
+        for _ in 0..6 {
+            let world = World::any(random);
+            let start = if random.chance(25) { Tables::default() } else { tables(random, &world) };
+            let lines = calls_list(random, &world, &start);
+            let newline = random.chance(80);
+            compare(tally, program, Some(&image::write(&start)), &Input { lines, newline });
+        }
+        let lines = growth(random, round);
+        compare(tally, program, Some(&FRESH), &Input::of(lines));
+        refusals_when_full(tally, random, program);
+        for _ in 0..2 {
+            isolation(tally, random, program);
+        }
+    }
+}
+
+/// A line of every form, for their alterations.
+fn forms() -> Vec<String> {
+    let forms = [
+        "decide 3 3 1 616e6e 726964676531 1.3.6.1.2.1.2.2.1.8.2",
+        "owner put context 7a",
+        "owner remove context -",
+        "owner put mapping 3 626f62 6c65616473 3 1",
+        "owner remove mapping 3 616e6e",
+        "owner put access 6c65616473 - 0 1 2 616c6c 616c6c 676f6e65 3 1",
+        "owner remove access 6c65616473 7269 3 2",
+        "owner put view 616c6c 1.3.6.2 ff80 1 3 1",
+        "owner remove view 616c6c 1.3.6.1",
+        "principal 3 616e6e 1 put mapping 3 63616c 747261696e 3 1",
+        "principal 3 616e6e 1 remove view 62617365 1.3.6.1",
+        "encode 5 mapping 3 616e6e",
+        "decode 1.3.6.1.6.3.16.1.1.1.1.1.97",
+        "image",
+    ];
+    forms.iter().map(|form| form.to_string()).collect()
+}
+
+fn calls_list(random: &mut Random, world: &World, start: &Tables) -> Vec<Vec<u8>> {
+    let mut held = start.clone();
+    let mut list = Vec::new();
+    for _ in 0..random.between(60, 500) {
+        let line = match random.below(100) {
+            0 => b"image".to_vec(),
+            1 | 2 => {
+                // rights for somebody, row by row
+                let mut granted = Tables::default();
+                grant(random, world, &mut granted);
+                let row = random.pick(&granted.rows()).clone();
+                call_text(&Call::Owner(Edit::Put(row))).into_bytes()
+            }
+            _ => {
+                let text = call_text(&call(random, world, &held));
+                spelt(random, text)
+            }
+        };
+        if let Some(call) = call_of(&line).filter(|_| line.len() <= lines::LINE_LIMIT) {
+            lines::answer(&mut held, &call);
+        }
+        list.push(line);
+    }
+    list.push(b"image".to_vec());
+    list
+}
+
+/// Rows put one by one in random order until every table is past its limit, then taken out again.
+fn growth(random: &mut Random, round: usize) -> Vec<Vec<u8>> {
+    let size = [Size::Wide, Size::Maximal][round % 2];
+    let world = World::new(random, size);
+    let mut calls = Vec::new();
+    let mut keys = Vec::new();
+    for table in TABLES {
+        for _ in 0..2 * table.limit() {
+            let row = world::row(random, &world, table);
+            keys.push(row.key());
+            calls.push(Call::Owner(Edit::Put(row)));
+        }
+    }
+    random.shuffle(&mut calls);
+    random.shuffle(&mut keys);
+    calls.push(Call::Image);
+    calls.extend(keys.iter().take(200).map(|key| Call::Owner(Edit::Remove(key.clone()))));
+    calls.push(Call::Image);
+    calls.iter().map(|call| call_text(call).into_bytes()).collect()
+}
+
+/// A granted principal's edits of full tables: 9 for a new row, 11 before it, 0 for a held one.
+fn refusals_when_full(tally: &mut Tally, random: &mut Random, program: &mut Program) {
+    let world = World::new(random, Size::Wide);
+    let mut tables = world::filled(random, &world, TABLES.map(Table::limit));
+    let mapping = grant(random, &world, &mut tables);
+    let mut list = Vec::new();
+    for _ in 0..120 {
+        let table = random.of(&[Table::Mapping, Table::Access, Table::View]);
+        let mut row = world::row(random, &world, table);
+        if random.chance(5) {
+            spoil_row(random, &mut row);
+        }
+        let level = random.between(1, 3);
+        let put = Call::Owner(Edit::Put(row));
+        let text = call_text(&put);
+        let text = if random.chance(70) {
+            text.replacen("owner", &format!("principal {} {} {}", mapping.model, lines::hex_or_dash(&mapping.name), level), 1)
+        } else {
+            text
+        };
+        list.push(text.into_bytes());
+    }
+    list.push(b"image".to_vec());
+    compare(tally, program, Some(&image::write(&tables)), &Input::of(list));
+}
+
+/// Demand 3 on the program itself: two lists with the same shared calls give these the same answers and leave the same circle.
+fn isolation(tally: &mut Tally, random: &mut Random, program: &mut Program) {
+    let size = random.of(&[Size::Small, Size::Wide, Size::Dense]);
+    let world = World::new(random, size);
+    let circle = Circle::new(random, &world);
+    let length = random.between(20, 120);
+    let pair = two_lists(random, &world, &circle, length);
+    let mut shared = Vec::new();
+    let mut ends = Vec::new();
+    for list in &pair {
+        let mut lines: Vec<Vec<u8>> = list.iter().map(|call| call_text(call).into_bytes()).collect();
+        lines.push(b"image".to_vec());
+        let out = compare(tally, program, Some(&FRESH), &Input::of(lines));
+        let text = String::from_utf8_lossy(&out);
+        let answers: Vec<String> = text.lines().map(|line| line.split_once(' ').map_or("", |(_, answer)| answer).to_string()).collect();
+        shared.push(list.iter().zip(&answers).filter(|(call, _)| circle.is_shared(call)).map(|(_, answer)| answer.clone()).collect::<Vec<_>>());
+        let image = answers.last().and_then(|answer| answer.strip_prefix("image ")).map(unhex).unwrap_or_default();
+        ends.push(image::read(&image).map(|tables| circle.rows(&tables)));
+    }
+    if pair.iter().all(|list| list_keeps(&circle, list)) {
+        tally.meet("trycalls", "pairs of lists of demand 3: alike".to_string());
+        let alike = shared[0] == shared[1] && ends[0].is_ok() && ends[0] == ends[1];
+        tally.check(alike, || {
+            let texts = pair.map(|list| list.iter().map(call_text).collect::<Vec<_>>().join("\n"));
+            format!("demand 3, for the group {}, of the lists\n{}\n-- and\n{}", hex(&circle.group), texts[0], texts[1])
+        });
+    }
+}
+
+fn unhex(text: &str) -> Vec<u8> {
+    (0..text.len() / 2).filter_map(|i| u8::from_str_radix(&text[2 * i..2 * i + 2], 16).ok()).collect()
+}

@@ -1,0 +1,332 @@
+//! Every case of a small kind: each two access rows under step 3, each two view rows under step 5, each storage and
+//! each column under an edit, each field about the ends of its range.
+
+use crate::reference::decision::Request;
+use crate::reference::edits::{Caller, Edit};
+use crate::reference::instance;
+use crate::reference::lines::Call;
+use crate::reference::rows::*;
+use crate::reference::tables::Tables;
+
+pub struct Case {
+    pub tables: Tables,
+    pub requests: Vec<Request>,
+}
+
+/// One context for each name, Ann in the group "g" under models 3 and 4.
+fn base(contexts: &[&str]) -> Tables {
+    let mut tables = Tables::default();
+    for name in contexts {
+        tables.put(Row::Context(Context { name: (*name).into() }));
+    }
+    for model in [3, 4] {
+        tables.put(Row::Mapping(Mapping { model, name: "ann".into(), group: "g".into(), storage: 3, status: 1 }));
+    }
+    tables
+}
+
+fn access(prefix: &str, model: u32, level: u32, matching: u32, view: &str) -> Access {
+    let view: Name = view.into();
+    let (read, write, notify) = (view.clone(), view.clone(), view);
+    Access { group: "g".into(), prefix: prefix.into(), model, level, matching, read, write, notify, storage: 3, status: 1 }
+}
+
+fn view(name: &str, subtree: Identifier, mask: Vec<u8>, kind: u32, status: u32) -> View {
+    View { name: name.into(), subtree, mask, kind, storage: 3, status }
+}
+
+fn read(model: u32, level: u32, context: &str, variable: Identifier) -> Request {
+    Request { model, name: "ann".into(), level, kind: 1, context: context.into(), variable }
+}
+
+/// Each two access rows of one group. The first row's view includes the variable and the second's does not: the answer says
+/// which row was chosen.
+pub fn step_three() -> Vec<Case> {
+    let contexts = ["", "a", "ab", "abc", "b"];
+    let mut rows = Vec::new();
+    for prefix in ["", "a", "ab"] {
+        for model in [0, 3, 5] {
+            for level in 1..=3 {
+                for matching in 1..=2 {
+                    rows.push(access(prefix, model, level, matching, "in"));
+                }
+            }
+        }
+    }
+    let mut requests = Vec::new();
+    for context in contexts {
+        for model in [3, 4] {
+            for level in 1..=3 {
+                requests.push(read(model, level, context, vec![1]));
+            }
+        }
+    }
+    let mut cases = Vec::new();
+    for first in &rows {
+        for second in &rows {
+            let (key, other) = (Row::Access(first.clone()).key(), Row::Access(second.clone()).key());
+            if key == other {
+                continue;
+            }
+            let mut tables = base(&contexts);
+            tables.put(Row::Access(first.clone()));
+            tables.put(Row::Access(Access { read: "out".into(), ..second.clone() }));
+            tables.put(Row::View(view("in", vec![1], vec![], 1, 1)));
+            tables.put(Row::View(view("out", vec![1], vec![], 2, 1)));
+            cases.push(Case { tables, requests: requests.clone() });
+        }
+    }
+    cases
+}
+
+/// Each two view rows of one view, with subtrees of one or two parts, under variables of one to three.
+pub fn step_five() -> Vec<Case> {
+    let short = |most: u32| -> Vec<Identifier> {
+        (1..=most).flat_map(|length| (0..1u32 << length).map(move |bits| (0..length).map(|i| 1 + (bits >> i & 1)).collect())).collect()
+    };
+    let mut rows = Vec::new();
+    for subtree in short(2) {
+        for mask in [vec![], vec![0x00], vec![0x40], vec![0x80], vec![0xc0, 0x00]] {
+            for kind in 1..=2 {
+                for status in 1..=2 {
+                    rows.push(view("v", subtree.clone(), mask.clone(), kind, status));
+                }
+            }
+        }
+    }
+    let requests: Vec<Request> = short(3).into_iter().map(|variable| read(3, 1, "", variable)).collect();
+    let mut cases = Vec::new();
+    for (i, first) in rows.iter().enumerate() {
+        for second in &rows[i..] {
+            let mut tables = base(&[""]);
+            tables.put(Row::Access(access("", 0, 1, 1, "v")));
+            tables.put(Row::View(first.clone()));
+            tables.put(Row::View(second.clone()));
+            cases.push(Case { tables, requests: requests.clone() });
+        }
+    }
+    cases
+}
+
+/// Tables where Ann, under model 3 at level 1, may edit every row.
+fn granted() -> Tables {
+    let mut tables = base(&[""]);
+    tables.put(Row::Access(access("", 0, 1, 1, "v")));
+    tables.put(Row::View(view("v", vec![1], vec![], 1, 1)));
+    tables
+}
+
+fn ann() -> Caller {
+    Caller { model: 3, name: "ann".into(), level: 1 }
+}
+
+/// A principal that may edit every row puts and removes a row of each table, with each storage held before and given, on tables
+/// with room and on full ones.
+pub fn storages() -> (Tables, Vec<Call>) {
+    let ann = ann();
+    let mut calls = Vec::new();
+    for table in [Table::Mapping, Table::Access, Table::View] {
+        for full in [false, true] {
+            if full {
+                calls.extend((0..table.limit()).map(|i| Call::Owner(Edit::Put(stored(table, 100 + i, 3)))));
+            }
+            let row = |storage| stored(table, 100, storage);
+            for held in 2..=5 {
+                for given in 2..=5 {
+                    calls.push(Call::Owner(Edit::Put(row(held))));
+                    calls.push(Call::Principal(ann.clone(), Edit::Put(row(given))));
+                }
+                calls.push(Call::Owner(Edit::Put(row(held))));
+                calls.push(Call::Principal(ann.clone(), Edit::Remove(row(held).key())));
+                calls.push(Call::Owner(Edit::Put(row(held))));
+            }
+            for given in 2..=5 {
+                // a new row
+                calls.push(Call::Principal(ann.clone(), Edit::Put(stored(table, 0, given))));
+                calls.push(Call::Principal(ann.clone(), Edit::Remove(stored(table, 0, given).key())));
+            }
+            calls.push(Call::Image);
+        }
+    }
+    (granted(), calls)
+}
+
+/// The principal's write view shrinks to one column at a time, and to the status instance of one row: the edit is judged there alone.
+pub fn columns() -> (Tables, Vec<Call>) {
+    let mut tables = base(&[""]);
+    tables.put(Row::Access(access("", 0, 1, 1, "v")));
+    let mut calls = Vec::new();
+    for table in [Table::Mapping, Table::Access, Table::View] {
+        let row = stored(table, 0, 3);
+        let status = *instance::columns(table).last().expect("columns");
+        let instance = instance::encode(status, &row.key()).expect("a legal key and a listed column");
+        let place = instance.len() - row.key().index().len() - 1;
+        let mut subtrees = vec![instance[..place].to_vec(), instance.clone(), instance[..instance.len() - 1].to_vec()];
+        for column in 0..12 {
+            let mut subtree = instance[..=place].to_vec();
+            subtree[place] = column;
+            subtrees.push(subtree);
+        }
+        for subtree in subtrees {
+            let granted = view("v", subtree, vec![], 1, 1);
+            let key = Row::View(granted.clone()).key();
+            calls.push(Call::Owner(Edit::Put(Row::View(granted))));
+            for other in 0..2 {
+                let row = stored(table, other, 3);
+                calls.push(Call::Principal(ann(), Edit::Put(row.clone())));
+                calls.push(Call::Principal(ann(), Edit::Remove(row.key())));
+            }
+            calls.push(Call::Owner(Edit::Remove(key)));
+        }
+    }
+    calls.push(Call::Image);
+    (tables, calls)
+}
+
+fn stored(table: Table, number: usize, storage: u32) -> Row {
+    let name = vec![b'r', number as u8];
+    match table {
+        Table::Context => Row::Context(Context { name }),
+        Table::Mapping => Row::Mapping(Mapping { model: 1, name, group: "h".into(), storage, status: 2 }),
+        Table::Access => Row::Access(Access { group: name, storage, ..access("", 0, 1, 1, "") }),
+        Table::View => Row::View(View { name, storage, ..view("", vec![1], vec![], 1, 2) }),
+    }
+}
+
+// ---- ranges
+
+/// About the ends of every range of numbers, and what a narrower number would wrap into one.
+const NUMBERS: [u32; 22] = [0, 1, 2, 3, 4, 5, 6, 7, 8, 9, 10, 255, 256, 257, 258, 259, 260, 261, 65_537, LARGEST_MODEL, LARGEST_MODEL + 1, u32::MAX];
+
+/// About the ends of every range of lengths, and what a byte would wrap into one.
+const LENGTHS: [usize; 20] = [0, 1, 2, 15, 16, 17, 31, 32, 33, 63, 64, 65, 127, 128, 129, 255, 256, 257, 272, 288];
+
+fn octets() -> impl Iterator<Item = Vec<u8>> {
+    LENGTHS.into_iter().map(|length| vec![b'o'; length])
+}
+
+fn identifiers() -> impl Iterator<Item = Identifier> {
+    LENGTHS.into_iter().map(|length| vec![1; length])
+}
+
+/// One request for each value of each field; the others are legal.
+pub fn requests() -> Vec<Request> {
+    let legal = read(3, 1, "", vec![1]);
+    let mut requests = Vec::new();
+    for number in NUMBERS {
+        requests.push(Request { model: number, ..legal.clone() });
+        requests.push(Request { level: number, ..legal.clone() });
+        requests.push(Request { kind: number, ..legal.clone() });
+    }
+    for name in octets() {
+        requests.push(Request { name: name.clone(), ..legal.clone() });
+        requests.push(Request { context: name, ..legal.clone() });
+    }
+    requests.extend(identifiers().map(|variable| Request { variable, ..legal.clone() }));
+    requests
+}
+
+/// One row for each value of each field; the others are legal.
+fn rows() -> Vec<Row> {
+    let mapping = Mapping { model: 1, name: "m".into(), group: "g".into(), storage: 3, status: 1 };
+    let access = Access { group: "h".into(), ..access("p", 1, 1, 1, "v") };
+    let view = view("w", vec![1, 3], vec![0xff], 1, 1);
+    let mut rows = Vec::new();
+    for number in NUMBERS {
+        rows.push(Row::Mapping(Mapping { model: number, ..mapping.clone() }));
+        rows.push(Row::Mapping(Mapping { storage: number, ..mapping.clone() }));
+        rows.push(Row::Mapping(Mapping { status: number, ..mapping.clone() }));
+        rows.push(Row::Access(Access { model: number, ..access.clone() }));
+        rows.push(Row::Access(Access { level: number, ..access.clone() }));
+        rows.push(Row::Access(Access { matching: number, ..access.clone() }));
+        rows.push(Row::Access(Access { storage: number, ..access.clone() }));
+        rows.push(Row::Access(Access { status: number, ..access.clone() }));
+        rows.push(Row::View(View { kind: number, ..view.clone() }));
+        rows.push(Row::View(View { storage: number, ..view.clone() }));
+        rows.push(Row::View(View { status: number, ..view.clone() }));
+    }
+    for name in octets() {
+        rows.push(Row::Context(Context { name: name.clone() }));
+        rows.push(Row::Mapping(Mapping { name: name.clone(), ..mapping.clone() }));
+        rows.push(Row::Mapping(Mapping { group: name.clone(), ..mapping.clone() }));
+        rows.push(Row::Access(Access { group: name.clone(), ..access.clone() }));
+        rows.push(Row::Access(Access { prefix: name.clone(), ..access.clone() }));
+        rows.push(Row::Access(Access { read: name.clone(), ..access.clone() }));
+        rows.push(Row::Access(Access { write: name.clone(), ..access.clone() }));
+        rows.push(Row::Access(Access { notify: name.clone(), ..access.clone() }));
+        rows.push(Row::View(View { name: name.clone(), ..view.clone() }));
+        rows.push(Row::View(View { mask: name, ..view.clone() }));
+    }
+    rows.extend(identifiers().map(|subtree| Row::View(View { subtree, ..view.clone() })));
+    rows
+}
+
+/// Every call with every field about the ends of its range.
+pub fn ranges() -> (Tables, Vec<Call>) {
+    let ann = ann();
+    let mut calls: Vec<Call> = requests().into_iter().map(Call::Decide).collect();
+    for row in rows() {
+        let key = row.key();
+        calls.push(Call::Owner(Edit::Put(row.clone())));
+        calls.push(Call::Image);
+        calls.push(Call::Principal(ann.clone(), Edit::Put(row)));
+        calls.push(Call::Principal(ann.clone(), Edit::Remove(key.clone())));
+        calls.push(Call::Owner(Edit::Remove(key.clone())));
+        for column in NUMBERS {
+            calls.push(Call::Encode(column, key.clone()));
+        }
+    }
+    for edit in [Edit::Remove(Key::Mapping { model: 1, name: "m".into() }), Edit::Put(Row::Context(Context { name: "".into() }))] {
+        for number in NUMBERS {
+            calls.push(Call::Principal(Caller { model: number, ..ann.clone() }, edit.clone()));
+            calls.push(Call::Principal(Caller { level: number, ..ann.clone() }, edit.clone()));
+        }
+        calls.extend(octets().map(|name| Call::Principal(Caller { name, ..ann.clone() }, edit.clone())));
+    }
+    calls.push(Call::Image);
+    (granted(), calls)
+}
+
+/// Instances of every column, cut at every length, with every part altered, and with a part over.
+pub fn instances() -> Vec<Call> {
+    let keys = [
+        Key::Context { name: "".into() },
+        Key::Context { name: "ab".into() },
+        Key::Mapping { model: 3, name: "ab".into() },
+        Key::Access { group: "ab".into(), prefix: "".into(), model: 0, level: 1 },
+        Key::Access { group: "a".into(), prefix: "bc".into(), model: 3, level: 3 },
+        Key::View { name: "ab".into(), subtree: vec![1, 3, u32::MAX] },
+    ];
+    let mut identifiers: Vec<Identifier> = Vec::new();
+    for key in keys {
+        for column in instance::columns(key.table()) {
+            let whole = instance::encode(*column, &key).expect("a legal key and a listed column");
+            identifiers.extend((0..=whole.len()).map(|end| whole[..end].to_vec()));
+            for place in 0..=whole.len() {
+                identifiers.push([&whole[..place], &[0], &whole[place..]].concat());
+                for number in NUMBERS {
+                    let mut altered = whole.clone();
+                    if place < whole.len() {
+                        altered[place] = number;
+                        identifiers.push(altered);
+                    }
+                }
+            }
+        }
+    }
+    for length in LENGTHS {
+        // names and subtrees of every length, well told and told short by one
+        let name = vec![b'n'; length];
+        for told in [length, length.saturating_sub(1)] {
+            let spelt: Identifier = [told as u32].into_iter().chain(name.iter().map(|octet| u32::from(*octet))).collect();
+            let instance = |base: &[u32], behind: &[u32]| [base, &spelt, behind].concat();
+            identifiers.push(instance(&[1, 3, 6, 1, 6, 3, 16, 1, 1, 1, 1], &[]));
+            identifiers.push(instance(&[1, 3, 6, 1, 6, 3, 16, 1, 2, 1, 5, 3], &[]));
+            identifiers.push(instance(&[1, 3, 6, 1, 6, 3, 16, 1, 4, 1, 9], &[0, 0, 1]));
+            identifiers.push(instance(&[1, 3, 6, 1, 6, 3, 16, 1, 4, 1, 9, 1, 97], &[0, 1]));
+            identifiers.push(instance(&[1, 3, 6, 1, 6, 3, 16, 1, 5, 2, 1, 6], &[1, 1]));
+            identifiers.push(instance(&[1, 3, 6, 1, 6, 3, 16, 1, 5, 2, 1, 6, 1, 97], &[]));
+        }
+    }
+    identifiers.into_iter().map(Call::Decode).collect()
+}

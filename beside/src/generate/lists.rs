@@ -1,0 +1,205 @@
+//! Pairs of lists of calls with two groups, for the demand that other traffic does not change what a group's members are told.
+
+use super::calls::{edit, principal_call};
+use super::requests::request;
+use super::world::{grant, held_key, row, table, World, OWN_TABLES};
+use crate::random::Random;
+use crate::reference::edits::{Caller, Edit};
+use crate::reference::lines::{answer, Call};
+use crate::reference::rows::*;
+use crate::reference::tables::Tables;
+
+/// A group's circle: its name, its members and its chosen views.
+pub struct Circle {
+    pub group: Name,
+    pub members: Vec<(u32, Name)>,
+    pub views: Vec<Name>,
+}
+
+impl Circle {
+    pub fn new(random: &mut Random, world: &World) -> Circle {
+        let count = random.between(1, 3);
+        let members = (0..count).map(|_| (random.of(&world.models), random.pick(&world.names).clone())).collect();
+        let most = world.views.len() - 1;
+        let views = world.views[..random.between(1, most)].to_vec();
+        Circle { group: world.groups[0].clone(), members, views }
+    }
+
+    pub fn has_key(&self, key: &Key) -> bool {
+        match key {
+            Key::Context { .. } => true,
+            Key::Mapping { model, name } => self.has_member(*model, name),
+            Key::Access { group, .. } => *group == self.group,
+            Key::View { name, .. } => self.views.contains(name),
+        }
+    }
+
+    fn has_member(&self, model: u32, name: &Name) -> bool {
+        self.members.iter().any(|member| member.0 == model && member.1 == *name)
+    }
+
+    pub fn is_shared(&self, call: &Call) -> bool {
+        match call {
+            Call::Decide(request) => self.has_member(request.model, &request.name),
+            Call::Principal(caller, _) => self.has_member(caller.model, &caller.name),
+            Call::Owner(edit) => self.has_key(&edit.key()),
+            _ => false,
+        }
+    }
+
+    /// A shared put maps members to the group alone and its access rows to chosen views or none; a member's edit is of the circle.
+    fn keeps_conditions(&self, call: &Call) -> bool {
+        let keeps = |edit: &Edit| match edit {
+            Edit::Put(Row::Mapping(r)) => r.group == self.group,
+            Edit::Put(Row::Access(r)) => [&r.read, &r.write, &r.notify].iter().all(|view| view.is_empty() || self.views.contains(view)),
+            _ => true,
+        };
+        match call {
+            Call::Owner(edit) => keeps(edit),
+            Call::Principal(_, edit) => self.has_key(&edit.key()) && keeps(edit),
+            _ => true,
+        }
+    }
+
+    pub fn rows(&self, tables: &Tables) -> Vec<Row> {
+        tables.rows().into_iter().filter(|row| self.has_key(&row.key())).collect()
+    }
+}
+
+/// Two lists that share the member calls and the owner's edits of the circle; the others are drawn apart.
+pub fn two_lists(random: &mut Random, world: &World, circle: &Circle, length: usize) -> [Vec<Call>; 2] {
+    let mut lists = [Vec::new(), Vec::new()];
+    let mut tables = [Tables::default(), Tables::default()];
+    let opening = opening_rows(random, circle);
+    for step in 0..length {
+        let next = match opening.get(step) {
+            Some(row) => Call::Owner(Edit::Put(row.clone())),
+            None => shared_call(random, world, circle, &tables[0]),
+        };
+        let full = tables.iter().any(|tables| answer(&mut tables.clone(), &next) == "9");
+        if circle.is_shared(&next) && circle.keeps_conditions(&next) && !full {
+            for (list, tables) in lists.iter_mut().zip(&mut tables) {
+                answer(tables, &next);
+                list.push(next.clone());
+            }
+        }
+        for (list, tables) in lists.iter_mut().zip(&mut tables) {
+            for _ in 0..random.below(4) {
+                let other = other_call(random, world, circle, tables);
+                if !circle.is_shared(&other) && !enters(circle, tables, &other) {
+                    answer(tables, &other);
+                    list.push(other);
+                }
+            }
+        }
+    }
+    lists
+}
+
+/// Whether another's edit of a circle row would be accepted.
+fn enters(circle: &Circle, tables: &Tables, call: &Call) -> bool {
+    match call {
+        Call::Principal(_, edit) => circle.has_key(&edit.key()) && answer(&mut tables.clone(), call) == "0",
+        _ => false,
+    }
+}
+
+/// Enough for members to read and edit: a context, the members, access rows of the group and its views.
+fn opening_rows(random: &mut Random, circle: &Circle) -> Vec<Row> {
+    let mut rows = vec![Row::Context(Context { name: Vec::new() })];
+    for (model, name) in &circle.members {
+        rows.push(Row::Mapping(Mapping { model: *model, name: name.clone(), group: circle.group.clone(), storage: 3, status: 1 }));
+    }
+    for level in 1..3 {
+        rows.push(Row::Access(Access {
+            group: circle.group.clone(),
+            prefix: Vec::new(),
+            model: 0,
+            level,
+            matching: 2,
+            read: random.pick(&circle.views).clone(),
+            write: circle.views[0].clone(),
+            notify: random.pick(&circle.views).clone(),
+            storage: 3,
+            status: 1,
+        }));
+    }
+    for view in &circle.views {
+        let subtree = OWN_TABLES.to_vec();
+        rows.push(Row::View(View { name: view.clone(), subtree, mask: Vec::new(), kind: 1, storage: 3, status: 1 }));
+    }
+    rows
+}
+
+fn shared_call(random: &mut Random, world: &World, circle: &Circle, guide: &Tables) -> Call {
+    let (model, name) = random.pick(&circle.members).clone();
+    match random.below(10) {
+        0..=3 => {
+            let mut request = request(random, world, guide);
+            request.model = model;
+            request.name = name;
+            Call::Decide(request)
+        }
+        4..=6 => Call::Principal(Caller { model, name, level: random.between(1, 3) as u32 }, circle_edit(random, world, circle, guide)),
+        _ => Call::Owner(circle_edit(random, world, circle, guide)),
+    }
+}
+
+fn circle_edit(random: &mut Random, world: &World, circle: &Circle, guide: &Tables) -> Edit {
+    let table = table(random);
+    let (model, name) = random.pick(&circle.members).clone();
+    if random.chance(20) {
+        return Edit::Remove(held_key(random, world, guide, table));
+    }
+    let view = |random: &mut Random| if random.chance(20) { Vec::new() } else { random.pick(&circle.views).clone() };
+    Edit::Put(match row(random, world, table) {
+        Row::Mapping(r) => Row::Mapping(Mapping { model, name, group: circle.group.clone(), ..r }),
+        Row::Access(r) => {
+            let (read, write, notify) = (view(random), view(random), view(random));
+            Row::Access(Access { group: circle.group.clone(), read, write, notify, ..r })
+        }
+        Row::View(r) => Row::View(View { name: random.pick(&circle.views).clone(), ..r }),
+        row => row,
+    })
+}
+
+/// Another's call: the owner's edits outside of the circle, other principals' edits and requests of anything.
+fn other_call(random: &mut Random, world: &World, circle: &Circle, tables: &Tables) -> Call {
+    if random.chance(6) {
+        // the other group gets rights of its own
+        let mut granted = Tables::default();
+        grant(random, world, &mut granted);
+        let rows = granted.rows();
+        let row = random.pick(&rows).clone();
+        if !circle.has_key(&row.key()) {
+            return Call::Owner(Edit::Put(row));
+        }
+    }
+    match random.below(3) {
+        0 => Call::Decide(request(random, world, tables)),
+        1 => Call::Owner(edit(random, world, tables)),
+        _ => principal_call(random, world, tables),
+    }
+}
+
+/// The conditions on a list: others have no edit accepted in the circle, and no shared put of the circle is answered 9.
+pub fn list_keeps(circle: &Circle, list: &[Call]) -> bool {
+    let mut tables = Tables::default();
+    for call in list {
+        let shared = circle.is_shared(call);
+        let number = answer(&mut tables, call);
+        match call {
+            Call::Principal(_, edit) | Call::Owner(edit) => {
+                let in_circle = circle.has_key(&edit.key());
+                if shared && (!circle.keeps_conditions(call) || in_circle && number == "9") {
+                    return false;
+                }
+                if !shared && in_circle && number == "0" {
+                    return false;
+                }
+            }
+            _ => {}
+        }
+    }
+    true
+}

@@ -1,0 +1,9 @@
+//! Test cases: small worlds whose names and identifiers lie near each other, so that rows, requests and edits meet.
+
+pub mod calls;
+pub mod damage;
+pub mod every;
+pub mod lines;
+pub mod lists;
+pub mod requests;
+pub mod world;

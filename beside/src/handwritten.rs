@@ -1,0 +1,643 @@
+//! The same work as the proved code, written by hand for speed, as one would write it in C: on the bytes of a table image where
+//! they lie, by pointers, with no heap. An image is judged in one pass that notes where its rows begin; then rows are found by
+//! bisection, and decided on or edited in their place. The benchmark's other side; nothing else uses it.
+
+use std::mem::MaybeUninit;
+use std::ptr::read_unaligned;
+use std::slice::from_raw_parts;
+
+pub const ROOM: usize = 46_456;
+const LIMITS: [usize; 4] = [16, 64, 64, 96];
+const ALL_ROWS: usize = 240;
+const LARGEST_MODEL: u32 = 2_147_483_647;
+
+/// Where a row, a field or a key begins or ends.
+type At = *const u8;
+
+/// For each table the number of its first row among all rows; for each row where it begins, and the end of the last.
+struct Layout {
+    row: [usize; 5],
+    start: [MaybeUninit<u32>; ALL_ROWS + 1],
+}
+
+impl Layout {
+    #[inline(always)]
+    fn new() -> Layout {
+        Layout { row: [0; 5], start: [MaybeUninit::uninit(); ALL_ROWS + 1] }
+    }
+
+    /// SAFETY: `i` is at most the number of rows, and the survey has passed.
+    #[inline(always)]
+    unsafe fn start(&self, i: usize) -> usize {
+        self.start.get_unchecked(i).assume_init() as usize
+    }
+}
+
+#[inline(always)]
+unsafe fn be_16(at: At) -> usize {
+    u16::from_be(read_unaligned(at.cast::<u16>())) as usize
+}
+
+#[inline(always)]
+unsafe fn be_32(at: At) -> u32 {
+    u32::from_be(read_unaligned(at.cast::<u32>()))
+}
+
+#[inline(always)]
+unsafe fn be_64(at: At) -> u64 {
+    u64::from_be(read_unaligned(at.cast::<u64>()))
+}
+
+#[inline(always)]
+fn set_16(bytes: &mut [u8], place: usize, number: usize) {
+    bytes[place..place + 2].copy_from_slice(&(number as u16).to_be_bytes());
+}
+
+// ---- judging
+
+/// The counts and row lengths of an image at the front of `bytes`, before any row is judged: 0, or the refusal.
+#[inline(always)]
+fn survey(bytes: &[u8], layout: &mut Layout) -> u32 {
+    if bytes.len() < 8 {
+        return 14;
+    }
+    let at = bytes.as_ptr();
+    let mut rows = 0;
+    for (t, limit) in LIMITS.into_iter().enumerate() {
+        // SAFETY: the 8 bytes of the counts are there.
+        let count = unsafe { be_16(at.add(2 * t)) };
+        if count > limit {
+            return 9;
+        }
+        rows += count;
+        layout.row[t + 1] = rows;
+    }
+    let mut start = 8 + 2 * rows;
+    if bytes.len() < start {
+        return 14;
+    }
+    for i in 0..rows {
+        layout.start[i] = MaybeUninit::new(start as u32);
+        // SAFETY: the array of lengths is there.
+        start += unsafe { be_16(at.add(8 + 2 * i)) };
+    }
+    layout.start[rows] = MaybeUninit::new(start as u32);
+    0
+}
+
+/// The whole image: its total length, then its rows in order.
+#[inline(always)]
+fn judge_image(image: &[u8], layout: &mut Layout) -> u32 {
+    match survey(image, layout) {
+        0 => {}
+        refusal => return refusal,
+    }
+    // SAFETY: the survey has passed; then every row lies in the image.
+    unsafe {
+        if layout.start(layout.row[4]) != image.len() {
+            return 14;
+        }
+        judge_rows(image.as_ptr(), layout)
+    }
+}
+
+/// A store is room of one size with an image at its front.
+#[inline(always)]
+fn judge_store(store: &[u8], layout: &mut Layout) -> u32 {
+    if store.len() != ROOM || survey(store, layout) != 0 {
+        return 6;
+    }
+    // SAFETY: the survey has passed; then every row lies in the store.
+    unsafe {
+        if layout.start(layout.row[4]) > ROOM || judge_rows(store.as_ptr(), layout) != 0 {
+            return 6;
+        }
+    }
+    0
+}
+
+/// SAFETY: every row of the layout lies in the bytes at `bytes`.
+unsafe fn judge_rows(bytes: At, layout: &Layout) -> u32 {
+    match judge_table::<0>(bytes, layout) {
+        0 => {}
+        refusal => return refusal,
+    }
+    match judge_table::<1>(bytes, layout) {
+        0 => {}
+        refusal => return refusal,
+    }
+    match judge_table::<2>(bytes, layout) {
+        0 => {}
+        refusal => return refusal,
+    }
+    judge_table::<3>(bytes, layout)
+}
+
+#[inline(always)]
+unsafe fn judge_table<const TABLE: usize>(bytes: At, layout: &Layout) -> u32 {
+    let mut before: At = bytes;
+    let mut before_length = 0;
+    for i in layout.row[TABLE]..layout.row[TABLE + 1] {
+        let row = bytes.add(layout.start(i));
+        let end = bytes.add(layout.start(i + 1));
+        let key_end = match judge_row::<TABLE>(row, end) {
+            Ok(key_end) => key_end,
+            Err(refusal) => return refusal,
+        };
+        let length = key_end.offset_from(row) as usize;
+        if before_length != 0 && !ascends(before, before_length, row, length) {
+            return 15;
+        }
+        before = row;
+        before_length = length;
+    }
+    0
+}
+
+/// Whether the first key stands before the second. A key's bytes are in the order of its index, and no key begins another.
+#[inline(always)]
+unsafe fn ascends(a: At, a_length: usize, b: At, b_length: usize) -> bool {
+    let length = a_length.min(b_length);
+    if length < 8 {
+        for i in 0..length {
+            if *a.add(i) != *b.add(i) {
+                return *a.add(i) < *b.add(i);
+            }
+        }
+        return false;
+    }
+    let (x, y) = (be_64(a), be_64(b));
+    if x != y {
+        return x < y;
+    }
+    from_raw_parts(a.add(8), length - 8) < from_raw_parts(b.add(8), length - 8)
+}
+
+/// Where the row's key ends.
+#[inline(always)]
+unsafe fn judge_row<const TABLE: usize>(row: At, end: At) -> Result<At, u32> {
+    let (key, at) = match TABLE {
+        0 => {
+            let key = octets(row, end, 0, 32)?;
+            (key, key)
+        }
+        1 => {
+            let key = octets(model(row, end, 1)?, end, 1, 32)?;
+            let at = octets(key, end, 1, 32)?;
+            (key, number(number(at, end, 2, 5)?, end, 1, 2)?)
+        }
+        2 => {
+            let at = octets(octets(row, end, 1, 32)?, end, 0, 32)?;
+            let key = number(model(at, end, 0)?, end, 1, 3)?;
+            let at = octets(number(key, end, 1, 2)?, end, 0, 32)?;
+            let at = octets(octets(at, end, 0, 32)?, end, 0, 32)?;
+            (key, number(number(at, end, 2, 5)?, end, 1, 2)?)
+        }
+        _ => {
+            let key = subtree(octets(row, end, 1, 32)?, end)?;
+            let at = number(octets(key, end, 0, 16)?, end, 1, 2)?;
+            (key, number(number(at, end, 2, 5)?, end, 1, 2)?)
+        }
+    };
+    if at == end {
+        Ok(key)
+    } else {
+        Err(14)
+    }
+}
+
+#[inline(always)]
+unsafe fn left(at: At, end: At) -> usize {
+    end.offset_from(at) as usize
+}
+
+#[inline(always)]
+unsafe fn octets(at: At, end: At, least: usize, most: usize) -> Result<At, u32> {
+    if at == end {
+        return Err(14);
+    }
+    let length = *at as usize;
+    if length < least || length > most {
+        return Err(7);
+    }
+    if 1 + length > left(at, end) {
+        return Err(14);
+    }
+    Ok(at.add(1 + length))
+}
+
+#[inline(always)]
+unsafe fn subtree(at: At, end: At) -> Result<At, u32> {
+    if at == end {
+        return Err(14);
+    }
+    let count = *at as usize;
+    if !(1..=64).contains(&count) {
+        return Err(7);
+    }
+    if 1 + 4 * count > left(at, end) {
+        return Err(14);
+    }
+    Ok(at.add(1 + 4 * count))
+}
+
+#[inline(always)]
+unsafe fn model(at: At, end: At, least: u32) -> Result<At, u32> {
+    if left(at, end) < 4 {
+        return Err(14);
+    }
+    let model = be_32(at);
+    if model < least || model > LARGEST_MODEL {
+        return Err(7);
+    }
+    Ok(at.add(4))
+}
+
+#[inline(always)]
+unsafe fn number(at: At, end: At, least: u8, most: u8) -> Result<At, u32> {
+    if at == end {
+        return Err(14);
+    }
+    if *at < least || *at > most {
+        return Err(7);
+    }
+    Ok(at.add(1))
+}
+
+// ---- finding rows
+
+/// The first row of a table whose bytes are not below `head` (not at or below it, for `above`).
+/// SAFETY: the rows were judged, and `head` is the front of a legal key, up to the end of a field.
+#[inline(always)]
+unsafe fn bound(bytes: At, layout: &Layout, table: usize, head: &[u8], above: bool) -> usize {
+    let mut low = layout.row[table];
+    let mut high = layout.row[table + 1];
+    while low < high {
+        let middle = (low + high) / 2;
+        let start = layout.start(middle);
+        let length = (layout.start(middle + 1) - start).min(head.len());
+        let order = from_raw_parts(bytes.add(start), length).cmp(head);
+        if order.is_lt() || above && order.is_eq() {
+            low = middle + 1;
+        } else {
+            high = middle;
+        }
+    }
+    low
+}
+
+/// The row that begins with these bytes.
+#[inline(always)]
+unsafe fn held(bytes: At, layout: &Layout, table: usize, key: &[u8]) -> Option<usize> {
+    let place = bound(bytes, layout, table, key, false);
+    if place < layout.row[table + 1] && begins(bytes, layout, place, key) {
+        Some(place)
+    } else {
+        None
+    }
+}
+
+#[inline(always)]
+unsafe fn begins(bytes: At, layout: &Layout, place: usize, head: &[u8]) -> bool {
+    let start = layout.start(place);
+    layout.start(place + 1) - start >= head.len() && from_raw_parts(bytes.add(start), head.len()) == head
+}
+
+// ---- the decision
+
+#[derive(Clone, Copy)]
+pub struct Request<'a> {
+    pub model: u32,
+    pub name: &'a [u8],
+    pub level: u32,
+    pub kind: u32,
+    pub context: &'a [u8],
+}
+
+#[inline(always)]
+fn in_range(request: &Request, parts: usize) -> bool {
+    request.model.wrapping_sub(1) < LARGEST_MODEL
+        && request.name.len().wrapping_sub(1) < 32
+        && request.level.wrapping_sub(1) < 3
+        && request.kind.wrapping_sub(1) < 3
+        && request.context.len() <= 32
+        && parts.wrapping_sub(1) < 128
+}
+
+/// The decision over an image: the agent's call.
+#[inline(never)]
+pub fn is_access_allowed(image: &[u8], request: &Request, variable: &[u8]) -> u32 {
+    let mut layout = Layout::new();
+    match judge_image(image, &mut layout) {
+        0 => {}
+        refusal => return refusal,
+    }
+    if !variable.len().is_multiple_of(4) || !in_range(request, variable.len() / 4) {
+        return 7;
+    }
+    // SAFETY: the image was judged, and the request is in range.
+    unsafe { decide(image.as_ptr(), &layout, request, variable) }
+}
+
+/// The decision over a store.
+#[inline(never)]
+pub fn store_decide(store: &[u8], request: &Request, variable: &[u32]) -> u32 {
+    let mut layout = Layout::new();
+    match judge_store(store, &mut layout) {
+        0 => {}
+        refusal => return refusal,
+    }
+    if !in_range(request, variable.len()) {
+        return 7;
+    }
+    let mut bytes = [0; 512];
+    for (place, part) in bytes.chunks_exact_mut(4).zip(variable) {
+        place.copy_from_slice(&part.to_be_bytes());
+    }
+    // SAFETY: the store was judged, and the request is in range.
+    unsafe { decide(store.as_ptr(), &layout, request, &bytes[..4 * variable.len()]) }
+}
+
+/// A name as a key has it: its length, then its octets, behind `front`.
+#[inline(always)]
+fn spell<'a>(room: &'a mut [u8; 40], front: &[u8], name: &[u8]) -> &'a [u8] {
+    room[..front.len()].copy_from_slice(front);
+    room[front.len()] = name.len() as u8;
+    room[front.len() + 1..front.len() + 1 + name.len()].copy_from_slice(name);
+    &room[..front.len() + 1 + name.len()]
+}
+
+/// A length byte and its octets.
+#[inline(always)]
+unsafe fn name_at<'a>(at: At) -> &'a [u8] {
+    from_raw_parts(at, 1 + *at as usize)
+}
+
+/// SAFETY: the rows of the layout were judged, and the request is in range.
+#[inline(always)]
+unsafe fn decide(bytes: At, layout: &Layout, request: &Request, variable: &[u8]) -> u32 {
+    let mut room = [0; 40];
+    if held(bytes, layout, 0, spell(&mut room, &[], request.context)).is_none() {
+        return 1;
+    }
+    let key = spell(&mut room, &request.model.to_be_bytes(), request.name);
+    let group = match held(bytes, layout, 1, key) {
+        Some(place) if *bytes.add(layout.start(place + 1) - 1) == 1 => name_at(bytes.add(layout.start(place) + key.len())),
+        _ => return 2,
+    };
+    let view = match view_name(bytes, layout, request, group) {
+        None => return 3,
+        Some(view) => view,
+    };
+    if view.len() == 1 {
+        return 4;
+    }
+    in_view(bytes, layout, view, variable)
+}
+
+/// Of the candidates the one of greatest rank: own model, then longest prefix, then highest level.
+#[inline(always)]
+unsafe fn view_name<'a>(bytes: At, layout: &Layout, request: &Request, group: &[u8]) -> Option<&'a [u8]> {
+    let mut best = 0;
+    let mut views = bytes;
+    let first = bound(bytes, layout, 2, group, false);
+    for i in first..layout.row[3] {
+        if !begins(bytes, layout, i, group) {
+            break;
+        }
+        let prefix = name_at(bytes.add(layout.start(i) + group.len()));
+        let behind = prefix.as_ptr().add(prefix.len());
+        let (model, level, matching) = (be_32(behind), u32::from(*behind.add(4)), *behind.add(5));
+        let length = prefix.len() - 1;
+        let counts = *bytes.add(layout.start(i + 1) - 1) == 1
+            && (model == 0 || model == request.model)
+            && level <= request.level
+            && length <= request.context.len()
+            && (matching == 2 || length == request.context.len());
+        if !counts || prefix[1..] != request.context[..length] {
+            continue;
+        }
+        let rank = u32::from(model != 0) << 16 | (length as u32) << 8 | level;
+        if rank > best {
+            best = rank;
+            views = behind.add(6);
+        }
+    }
+    if best == 0 {
+        return None;
+    }
+    for _ in 1..request.kind {
+        views = views.add(1 + *views as usize);
+    }
+    Some(name_at(views))
+}
+
+/// A view's rows ascend by length and then by parts, so the last active one that matches decides.
+#[inline(always)]
+unsafe fn in_view(bytes: At, layout: &Layout, view: &[u8], variable: &[u8]) -> u32 {
+    let first = bound(bytes, layout, 3, view, false);
+    let mut i = bound(bytes, layout, 3, view, true);
+    let mut answer = 4;
+    while i > first {
+        i -= 1;
+        if *bytes.add(layout.start(i + 1) - 1) != 1 {
+            continue;
+        }
+        answer = 5;
+        let count = bytes.add(layout.start(i) + view.len());
+        let length = 4 * *count as usize;
+        if length > variable.len() {
+            continue;
+        }
+        let mask = count.add(1 + length);
+        if agrees(count.add(1), variable.as_ptr(), length, mask.add(1), *mask as usize) {
+            let included = *mask.add(1 + *mask as usize) == 1;
+            return if included { 0 } else { 5 };
+        }
+    }
+    answer
+}
+
+/// The parts wherever the mask bit is 1: eight parts for each octet of the mask, at once where all its bits are.
+#[inline(always)]
+unsafe fn agrees(subtree: At, variable: At, length: usize, mask: At, mask_length: usize) -> bool {
+    let mut place = 0;
+    for i in 0..mask_length {
+        if place >= length {
+            return true;
+        }
+        let octet = *mask.add(i);
+        let end = length.min(place + 32);
+        if octet == 0xff {
+            if !equal(subtree.add(place), variable.add(place), end - place) {
+                return false;
+            }
+        } else {
+            let mut bits = octet;
+            while place < end {
+                if bits & 128 != 0 && be_32(subtree.add(place)) != be_32(variable.add(place)) {
+                    return false;
+                }
+                bits <<= 1;
+                place += 4;
+            }
+        }
+        place = end;
+    }
+    place >= length || from_raw_parts(subtree.add(place), length - place) == from_raw_parts(variable.add(place), length - place)
+}
+
+/// Up to eight parts.
+#[inline(always)]
+unsafe fn equal(a: At, b: At, length: usize) -> bool {
+    if length == 32 {
+        let differ = |place: usize| be_64(a.add(place)) ^ be_64(b.add(place));
+        return differ(0) | differ(8) | differ(16) | differ(24) == 0;
+    }
+    let mut place = 0;
+    while place < length {
+        if be_32(a.add(place)) != be_32(b.add(place)) {
+            return false;
+        }
+        place += 4;
+    }
+    true
+}
+
+// ---- the owner's edits
+
+/// The length of a legal row's key.
+fn row_key(table: usize, row: &[u8]) -> Option<usize> {
+    let bounds = row.as_ptr_range();
+    // SAFETY: the bounds are the row's own.
+    let key = unsafe {
+        match table {
+            0 => judge_row::<0>(bounds.start, bounds.end),
+            1 => judge_row::<1>(bounds.start, bounds.end),
+            2 => judge_row::<2>(bounds.start, bounds.end),
+            3 => judge_row::<3>(bounds.start, bounds.end),
+            _ => return None,
+        }
+    };
+    key.ok().map(|key| key as usize - bounds.start as usize)
+}
+
+fn legal_key(table: usize, key: &[u8]) -> bool {
+    let bounds = key.as_ptr_range();
+    let end = bounds.end;
+    // SAFETY: the bounds are the key's own.
+    let judged = unsafe {
+        match table {
+            0 => octets(bounds.start, end, 0, 32),
+            1 => model(bounds.start, end, 1).and_then(|at| octets(at, end, 1, 32)),
+            2 => octets(bounds.start, end, 1, 32)
+                .and_then(|at| octets(at, end, 0, 32))
+                .and_then(|at| model(at, end, 0))
+                .and_then(|at| number(at, end, 1, 3)),
+            3 => octets(bounds.start, end, 1, 32).and_then(|at| subtree(at, end)),
+            _ => Err(7),
+        }
+    };
+    judged == Ok(end)
+}
+
+#[inline(never)]
+pub fn owner_put(store: &mut [u8], table: u32, row: &[u8]) -> u32 {
+    let mut layout = Layout::new();
+    match judge_store(store, &mut layout) {
+        0 => {}
+        refusal => return refusal,
+    }
+    let table = table as usize;
+    let key = match row_key(table, row) {
+        None => return 7,
+        Some(key) => &row[..key],
+    };
+    // SAFETY: the store was judged, and the key is legal.
+    let (number, byte, end, there) = unsafe {
+        let number = bound(store.as_ptr(), &layout, table, key, false);
+        let there = number < layout.row[table + 1] && begins(store.as_ptr(), &layout, number, key);
+        let byte = layout.start(number);
+        let length = if there { layout.start(number + 1) - byte } else { 0 };
+        (number, byte, layout.start(layout.row[4]), there.then_some(length))
+    };
+    match there {
+        Some(length) => {
+            if length != row.len() {
+                store.copy_within(byte + length..end, byte + row.len());
+                set_16(store, 8 + 2 * number, row.len());
+            }
+            store[byte..byte + row.len()].copy_from_slice(row);
+        }
+        None => {
+            let count = layout.row[table + 1] - layout.row[table];
+            if count == LIMITS[table] {
+                return 9;
+            }
+            // the rows behind move by the row and its length, those before it by the length alone
+            let length_at = 8 + 2 * number;
+            store.copy_within(byte..end, byte + 2 + row.len());
+            store.copy_within(length_at..byte, length_at + 2);
+            store[byte + 2..byte + 2 + row.len()].copy_from_slice(row);
+            set_16(store, length_at, row.len());
+            set_16(store, 2 * table, count + 1);
+        }
+    }
+    0
+}
+
+#[inline(never)]
+pub fn owner_remove(store: &mut [u8], table: u32, key: &[u8]) -> u32 {
+    let mut layout = Layout::new();
+    match judge_store(store, &mut layout) {
+        0 => {}
+        refusal => return refusal,
+    }
+    let table = table as usize;
+    if !legal_key(table, key) {
+        return 7;
+    }
+    // SAFETY: the store was judged, and the key is legal.
+    let (number, byte, behind, end) = unsafe {
+        match held(store.as_ptr(), &layout, table, key) {
+            None => return 10,
+            Some(number) => (number, layout.start(number), layout.start(number + 1), layout.start(layout.row[4])),
+        }
+    };
+    let length_at = 8 + 2 * number;
+    store.copy_within(length_at + 2..byte, length_at);
+    store.copy_within(behind..end, byte - 2);
+    set_16(store, 2 * table, layout.row[table + 1] - layout.row[table] - 1);
+    0
+}
+
+// ---- images
+
+#[inline(never)]
+pub fn read_image(image: &[u8], store: &mut [u8; ROOM]) -> u32 {
+    let mut layout = Layout::new();
+    let refusal = judge_image(image, &mut layout);
+    if refusal == 0 {
+        store[..image.len()].copy_from_slice(image);
+    }
+    refusal
+}
+
+/// The written length, or 2^32 and a refusal's number.
+#[inline(never)]
+pub fn write_image(store: &[u8], out: &mut [u8]) -> u64 {
+    let mut layout = Layout::new();
+    match judge_store(store, &mut layout) {
+        0 => {}
+        refusal => return (1 << 32) + u64::from(refusal),
+    }
+    // SAFETY: the survey has passed.
+    let end = unsafe { layout.start(layout.row[4]) };
+    match out.get_mut(..end) {
+        None => (1 << 32) + 16,
+        Some(out) => {
+            out.copy_from_slice(&store[..end]);
+            end as u64
+        }
+    }
+}

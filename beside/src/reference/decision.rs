@@ -1,0 +1,126 @@
+//! The decision: RFC 3415, section 3.2, step by step.
+
+use super::answers::*;
+use super::rows::*;
+use super::tables::Tables;
+
+#[derive(Clone, Debug, PartialEq, Eq)]
+pub struct Request {
+    pub model: u32,
+    pub name: Name,
+    pub level: u32,
+    pub kind: u32,
+    pub context: Name,
+    pub variable: Identifier,
+}
+
+impl Request {
+    pub fn legal(&self) -> bool {
+        legal_principal_model(self.model)
+            && legal_name(&self.name)
+            && legal_level(self.level)
+            && (1..=3).contains(&self.kind)
+            && legal_name_or_empty(&self.context)
+            && (1..=VARIABLE_LIMIT).contains(&self.variable.len())
+    }
+}
+
+/// The answer's number: 7, a cause, or 0 for allowed.
+pub fn decide(tables: &Tables, request: &Request) -> Number {
+    if !request.legal() {
+        return OUT_OF_RANGE;
+    }
+    match view_of(tables, request) {
+        Err(cause) => cause,
+        Ok(view) => match deciding_row(tables, &view, &request.variable) {
+            Some(row) if row.kind == 1 => SUCCESS,
+            _ => NOT_IN_VIEW,
+        },
+    }
+}
+
+/// Steps 1 to 4: the name of the view that the variable is looked up in.
+pub fn view_of(tables: &Tables, request: &Request) -> Result<Name, Number> {
+    if !tables.contexts.iter().any(|row| row.name == request.context) {
+        return Err(NO_SUCH_CONTEXT);
+    }
+    let mapping = tables.mappings.iter().find(|row| row.status == 1 && row.model == request.model && row.name == request.name);
+    let group = match mapping {
+        Some(row) => &row.group,
+        None => return Err(NO_GROUP_NAME),
+    };
+    let access = match chosen_access(tables, group, request) {
+        Some(row) => row,
+        None => return Err(NO_ACCESS_ENTRY),
+    };
+    let view = match request.kind {
+        1 => &access.read,
+        2 => &access.write,
+        _ => &access.notify,
+    };
+    if view.is_empty() || !tables.views.iter().any(|row| row.status == 1 && row.name == *view) {
+        return Err(NO_SUCH_VIEW);
+    }
+    Ok(view.clone())
+}
+
+/// Step 3: the candidates, then own model before any, then the longest prefix, then the highest level.
+fn chosen_access<'a>(tables: &'a Tables, group: &[u8], request: &Request) -> Option<&'a Access> {
+    let mut candidates: Vec<&Access> = Vec::new();
+    for row in &tables.accesses {
+        let in_context = match row.matching {
+            1 => row.prefix == request.context,
+            _ => request.context.starts_with(&row.prefix),
+        };
+        let of_model = row.model == 0 || row.model == request.model;
+        if row.status == 1 && row.group == group && in_context && of_model && row.level <= request.level {
+            candidates.push(row);
+        }
+    }
+    if candidates.iter().any(|row| row.model == request.model) {
+        candidates.retain(|row| row.model == request.model);
+    }
+    let longest = candidates.iter().map(|row| row.prefix.len()).max()?;
+    candidates.retain(|row| row.prefix.len() == longest);
+    let highest = candidates.iter().map(|row| row.level).max()?;
+    candidates.retain(|row| row.level == highest);
+    candidates.first().copied()
+}
+
+/// Step 5: of the matching rows the one with the longest subtree, at equal length the lexicographically greatest.
+pub fn deciding_row<'a>(tables: &'a Tables, view: &[u8], variable: &[u32]) -> Option<&'a View> {
+    let mut best: Option<&View> = None;
+    for row in &tables.views {
+        if row.status != 1 || row.name != view || !matches(row, variable) {
+            continue;
+        }
+        let better = match best {
+            None => true,
+            Some(held) => (row.subtree.len(), &row.subtree) > (held.subtree.len(), &held.subtree),
+        };
+        if better {
+            best = Some(row);
+        }
+    }
+    best
+}
+
+fn matches(row: &View, variable: &[u32]) -> bool {
+    if variable.len() < row.subtree.len() {
+        return false;
+    }
+    for (i, part) in row.subtree.iter().enumerate() {
+        if mask_bit(&row.mask, i) && *part != variable[i] {
+            return false;
+        }
+    }
+    true
+}
+
+/// The first bit is the highest of the first octet; missing bits are 1.
+pub fn mask_bit(mask: &[u8], i: usize) -> bool {
+    match mask.get(i / 8) {
+        Some(octet) => octet & (128 >> (i % 8)) != 0,
+        None => true,
+    }
+}

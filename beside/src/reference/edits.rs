@@ -1,0 +1,124 @@
+//! The owner's and the principals' edits.
+
+use super::answers::*;
+use super::decision::{decide, Request};
+use super::instance;
+use super::rows::*;
+use super::tables::Tables;
+
+#[derive(Clone, Debug, PartialEq, Eq)]
+pub enum Edit {
+    Put(Row),
+    Remove(Key),
+}
+
+impl Edit {
+    pub fn key(&self) -> Key {
+        match self {
+            Edit::Put(row) => row.key(),
+            Edit::Remove(key) => key.clone(),
+        }
+    }
+
+    fn legal(&self) -> bool {
+        match self {
+            Edit::Put(row) => row.legal(),
+            Edit::Remove(key) => key.legal(),
+        }
+    }
+}
+
+#[derive(Clone, Debug, PartialEq, Eq)]
+pub struct Caller {
+    pub model: u32,
+    pub name: Name,
+    pub level: u32,
+}
+
+pub fn owner_edit(tables: &mut Tables, edit: &Edit) -> Number {
+    if !edit.legal() {
+        return OUT_OF_RANGE;
+    }
+    if is_absent_removal(tables, edit) {
+        return ROW_ABSENT;
+    }
+    apply(tables, edit)
+}
+
+pub fn principal_edit(tables: &mut Tables, caller: &Caller, edit: &Edit) -> Number {
+    match judge_principal(tables, caller, edit) {
+        SUCCESS => apply(tables, edit),
+        refusal => refusal,
+    }
+}
+
+/// All that is judged of a principal's edit but room.
+pub fn judge_principal(tables: &Tables, caller: &Caller, edit: &Edit) -> Number {
+    if !legal_principal_model(caller.model) || !legal_name(&caller.name) || !legal_level(caller.level) || !edit.legal() {
+        return OUT_OF_RANGE;
+    }
+    let key = edit.key();
+    let status_column = match key.table() {
+        Table::Context => return CONTEXT_TABLE,
+        Table::Mapping => 5,
+        Table::Access => 9,
+        Table::View => 6,
+    };
+    let request = Request {
+        model: caller.model,
+        name: caller.name.clone(),
+        level: caller.level,
+        kind: 2,
+        context: Vec::new(),
+        variable: instance::encode(status_column, &key).expect("a legal key and a listed column"),
+    };
+    let answer = decide(tables, &request);
+    if answer != SUCCESS {
+        return answer;
+    }
+    if is_absent_removal(tables, edit) {
+        return ROW_ABSENT;
+    }
+    if !storage_allows(edit, tables.held(&key).and_then(|row| row.storage())) {
+        return STORAGE_FORBIDS;
+    }
+    SUCCESS
+}
+
+fn is_absent_removal(tables: &Tables, edit: &Edit) -> bool {
+    match edit {
+        Edit::Remove(key) => tables.held(key).is_none(),
+        Edit::Put(_) => false,
+    }
+}
+
+/// A put may not give storage 4 or 5 to a row that lacks it (a new row lacks it), nor alter storage 4, nor touch a row of 5;
+/// a row of 4 or 5 may not be removed.
+fn storage_allows(edit: &Edit, held: Option<u32>) -> bool {
+    match edit {
+        Edit::Remove(_) => held != Some(4) && held != Some(5),
+        Edit::Put(row) => {
+            let given = row.storage();
+            match held {
+                Some(5) => false,
+                Some(4) => given == Some(4),
+                _ => given != Some(4) && given != Some(5),
+            }
+        }
+    }
+}
+
+/// A put of a new row wants room; rows out of service take room too.
+fn apply(tables: &mut Tables, edit: &Edit) -> Number {
+    match edit {
+        Edit::Put(row) => {
+            let table = row.table();
+            if tables.held(&row.key()).is_none() && tables.count(table) == table.limit() {
+                return TABLE_FULL;
+            }
+            tables.put(row.clone());
+        }
+        Edit::Remove(key) => tables.remove(key),
+    }
+    SUCCESS
+}

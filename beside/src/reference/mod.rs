@@ -1,0 +1,16 @@
+//! The subsystem as document 01 says it, plainly: rows as structs, tables as vectors, an answer as its number.
+
+pub mod answers;
+pub mod decision;
+pub mod edits;
+pub mod image;
+pub mod instance;
+pub mod lines;
+pub mod ridge;
+pub mod rows;
+pub mod tables;
+
+#[cfg(test)]
+mod examples;
+#[cfg(test)]
+mod round_trips;

@@ -1,0 +1,63 @@
+-- `splice::move_blocks_down` meets its contract. The loop's invariant: the elements from `from` up to `j` are moved back by `by`, the rest is
+-- as it was, and so is the length. A turn moves the block at `j`, which no store has reached. The measure is what is left up to `end`.
+-- Assumes nothing.
+use mathlib.Core.Path.{_≡_, refl, _∙_}
+use Prim.Native.Nat.{_+_, _-_, _≤_}
+use native.Mathlib.Omega.{arith}
+use lib.ListN.{length}
+use borrow.Author.Needs.{needs}
+use Rattle.splice.specs.Splice.{moved}
+use Rattle.splice.proofs.Laws.{moved-none, moved-back}
+use Rattle.splice.proofs.move_blocks_down.Statement.{statement}
+use Rattle.splice.proofs.move_blocks_down.Tie as tie
+
+abbrev Inv-loop : tie.InvT-loop
+Inv-loop w₀ from end by j₀ w j = (from ≤ j) × (j ≤ end) × (w ≡ moved w₀ from j (from - by)) × (length w ≡ length w₀)
+
+abbrev μ-loop : tie.MeasureT-loop
+μ-loop w₀ from end by j₀ w j = end - j
+
+loop-holds : tie.Need-loop-holds Inv-loop μ-loop
+loop-holds c = (search needs, search needs, moved-none (c .before .args .w .now) (c .before .args .from) (c .before .args .from - c .before .args .by), refl)
+
+sub-loop : tie.Need-sub-loop Inv-loop μ-loop
+sub-loop c = search needs
+
+sub-move-block : tie.Need-sub-move-block Inv-loop μ-loop
+sub-move-block c = search needs
+
+move-block-requires : tie.Need-move-block-requires Inv-loop μ-loop
+move-block-requires c κs = search needs
+
+add-j : tie.Need-add-j Inv-loop μ-loop
+add-j c = search needs
+
+loop-less : tie.Need-loop-less Inv-loop μ-loop
+loop-less c = search needs
+
+loop-again : tie.Need-loop-again Inv-loop μ-loop
+loop-again c =
+    let l = c .before .before .before .before .before .loop in
+    (omega arith, omega arith, c .before .before .move-block .ensures ∙ moved-back _ _ _ (l .j) (l .j + 64) _ (l .inv .2) (omega arith) (omega arith) (omega arith) (omega arith), search needs)
+
+same-length : tie.Need-same-length Inv-loop μ-loop
+same-length c = search needs
+
+returns : tie.Need-returns Inv-loop μ-loop
+returns c = let l = c .before .loop in (l .inv .0, l .inv .1, l .inv .2)
+
+pub move-blocks-down-spec : {M : Type 1} → statement M
+move-blocks-down-spec =
+    tie.close
+    (tie.spec
+    Inv-loop
+    μ-loop
+    loop-holds
+    sub-loop
+    sub-move-block
+    move-block-requires
+    add-j
+    loop-less
+    loop-again
+    same-length
+    returns)
