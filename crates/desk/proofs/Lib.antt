@@ -1,0 +1,4 @@
+pub mod Leading
+pub mod Showing
+pub mod Telling
+pub mod Printing

@@ -1,0 +1,256 @@
+-- Laws of the answers that are told: an instance encoded, an instance decoded, an image. Each answer's text follows from what its call
+-- promises, and fits the buffer. Assumes nothing.
+use mathlib.Core.Path.{_≡_, refl, sym, ap, _∙_}
+use mathlib.Core.Bool.{Bool, true, false, cond, _&&_}
+use mathlib.Core.List.{List, [], _∷_, _++_}
+use mathlib.Core.Option.{Option, none, some, Option·none-ne-some}
+use Prim.Native.Nat.{ℕ, suc, _+_, _-_, _*_, _≤_, _<_}
+use native.Mathlib.Omega.{arith}
+use lib.Dec.{leb}
+use lib.ListN.{length, take, drop, getD, length-append}
+use lib.Seq.{take-append-seam}
+use borrow.Author.Tests.{le-leb, leb-true}
+use Rattle.answers.specs.declared.Fault.{Fault}
+use Rattle.answers.specs.Numbers.{faultNumber}
+use Rattle.answers.specs.declared.Fault.the-variants.{NotSound, TooShort, NotAnInstance}
+use Rattle.answers.specs.declared.Written.{Written}
+use Rattle.answers.specs.declared.Written.the-variants.{Length, Unwritten}
+use Rattle.lists.specs.Lists.{isNone}
+use Rattle.lists.proofs.Bools.{split as by, cond-true, cond-false}
+use Rattle.rows.specs.declared.Table.{Table}
+use Rattle.rows.specs.Tables.{Tables}
+use Rattle.rows.specs.Fields.{faults, values, rowBytes}
+use Rattle.rows.specs.Rows.{keyFields}
+use Rattle.rows.proofs.Sound.{cond-none}
+use Rattle.rows.proofs.Inverse.{Bytes, values-made}
+use Rattle.image.specs.Image.{tablesIn}
+use Rattle.image.specs.Store.{room, isSound, held}
+use Rattle.exchange.specs.Exchange.{imageEnd}
+use Rattle.exchange.proofs.Stores.{store-sound}
+use Rattle.imaging.specs.Imaging.{imageOf, overlaid, writtenOf, bufferOf, Writes}
+use Rattle.imaging.proofs.Again.{length-again}
+use Rattle.instance.specs.declared.Decoded.{Decoded}
+use Rattle.instance.specs.declared.Decoded.the-variants.{Instance, Faulty}
+use Rattle.instance.specs.Instances.{base, instance, lists, keyIndex, encodeFault, written, Encodes}
+use Rattle.instance.specs.Decoding.{parseIndex, Reading, readIndex, readColumn, tableOf, readInstance, keyBytes, decoded, buffered, Delivers}
+use Rattle.instance.proofs.Indexing.{then-some, map-some, cond-some, index-parsed}
+use Rattle.instance.proofs.Inverse.{writes-read}
+use Rattle.texts.specs.Texts.{decimalText, dotsText, dottedText, hexText, keyText, Puts}
+use Rattle.texts.proofs.Digits.{length-decimal}
+use Rattle.texts.proofs.Parts.{length-hex}
+use Rattle.texts.proofs.Bounds.{length-key}
+use Rattle.texts.proofs.Laying.{both, behind}
+use Rattle.desk.specs.Plays.{parts, oidText, instanceText, imageText, faultText, encodedText, decodedText, imageTextOf}
+use Rattle.desk.specs.Reading.{Shows}
+use Rattle.desk.proofs.Showing.{shown}
+
+-- ---- texts put in two parts
+
+pub begun-fits : (a b out : List ℕ) → 0 + length (a ++ b) ≤ length out → 0 + length a ≤ length out
+begun-fits a b out h = omega (arith, length-append a b)
+
+module _ (a b out : List ℕ) (h : 0 + length (a ++ b) ≤ length out) {r : ℕ} {mid : List ℕ} (p : Puts a 0 out mid r) where
+  pub second-fits : r + length b ≤ length mid
+  second-fits = behind a b h p
+
+  pub both-shown : {e : ℕ} {after : List ℕ} → Puts b r mid after e → Shows (a ++ b) after e
+  both-shown q = shown h (both a b h p q)
+
+-- ---- an instance encoded
+
+dots-short : (xs : List ℕ) → length (dotsText xs) ≤ 21 * length xs
+unfolding dotsText
+dots-short [] = omega arith
+dots-short (x ∷ xs) =
+    let ih : length (dotsText xs) ≤ 21 * length xs = dots-short xs in
+    omega (arith, length-append (decimalText x) (dotsText xs), length-decimal x)
+
+dotted-short : (xs : List ℕ) → length (dottedText xs) ≤ 21 * length xs + 20
+unfolding dottedText
+dotted-short [] = omega arith
+dotted-short (x ∷ xs) = omega (arith, dots-short xs, length-append (decimalText x) (dotsText xs), length-decimal x)
+
+is-length : (o : Option Fault) (m : ℕ) {n : ℕ} → Length n ≡ written o m → (o ≡ none) × (n ≡ m)
+is-length none m q = (refl, cc)
+is-length (some f) m q = (cc, cc)
+
+is-unwritten : (o : Option Fault) (m : ℕ) {f : Fault} → Unwritten f ≡ written o m → o ≡ some f
+is-unwritten none m q = cc
+is-unwritten (some g) m q = cc
+
+module _ (t : Table) (column : ℕ) (key found after : List ℕ) {r : Written} (e : Encodes t column key found after r) (l : length found ≡ parts) where
+  whole : List ℕ
+  whole = instance t column (keyIndex t key)
+
+  answer-is : r ≡ written (encodeFault t column key parts) (length whole)
+  unfolding whole
+  answer-is = e .answer-is ∙ ap (λ n. written (encodeFault t column key n) (length (instance t column (keyIndex t key)))) l
+
+  pub encoded-fault : {f : Fault} → r ≡ Unwritten f → encodeFault t column key parts ≡ some f
+  encoded-fault q = is-unwritten (encodeFault t column key parts) (length whole) (sym q ∙ answer-is)
+
+  module _ {n : ℕ} (q : r ≡ Length n) where
+    sound : (encodeFault t column key parts ≡ none) × (n ≡ length whole)
+    sound = is-length (encodeFault t column key parts) (length whole) (sym q ∙ answer-is)
+
+    few : length whole ≤ 128
+    unfolding encodeFault whole
+    few =
+        let a = cond-none (lists t column && isNone (faults (keyFields t) key)) _ _ (sound .0) .1 in
+        leb-true (length (instance t column (keyIndex t key))) 128 (cond-none (leb (length (instance t column (keyIndex t key))) 128) none TooShort a .0)
+
+    after-is : after ≡ whole ++ drop (length whole) found
+    unfolding whole
+    after-is =
+        let z : encodeFault t column key (length found) ≡ none = ap (encodeFault t column key) l ∙ sound .0 in
+        e .buffer-is ∙ rw z
+
+    oid-is : take (n - 0) after ≡ whole
+    oid-is =
+        let z : n - 0 ≡ length whole = omega (arith, sound .1) in
+        ap (λ m. take m after) z ∙ ap (take (length whole)) after-is ∙ take-append-seam whole (drop (length whole) found)
+
+    pub oid-room : n ≤ length after
+    oid-room = omega (arith, ap length after-is, length-append whole (drop (length whole) found), sound .1)
+
+    pub encoded-fits : (out : List ℕ) → 95000 ≤ length out → 0 + length (oidText ++ dottedText (take (n - 0) after)) ≤ length out
+    encoded-fits out h = rw oid-is (omega (arith, dotted-short whole, few, length-append oidText (dottedText whole)))
+
+    pub encoded-is : oidText ++ dottedText (take (n - 0) after) ≡ encodedText (encodeFault t column key parts) (instance t column (keyIndex t key))
+    unfolding whole
+    encoded-is = rw (sound .0) (ap (λ v. oidText ++ dottedText v) oid-is)
+
+-- ---- an instance decoded
+
+abbrev pub instanceIs : Table → ℕ → List ℕ → List ℕ
+instanceIs t column key = instanceText ++ (decimalText column ++ (32 ∷ keyText t (values (keyFields t) key)))
+
+pub instance-fits : (t : Table) (column : ℕ) (key out : List ℕ) → Bytes key → faults (keyFields t) key ≡ none → 95000 ≤ length out
+    → 0 + length (instanceIs t column key) ≤ length out
+instance-fits t column key out b h l =
+    let k : List ℕ = keyText t (values (keyFields t) key) in
+    omega (arith, length-append instanceText (decimalText column ++ (32 ∷ k)), length-append (decimalText column) (32 ∷ k), length-decimal column, length-key t key b h)
+
+column-fields : (t : Table) (v : List ℕ) (d : Reading) → readColumn t v ≡ some d → values (keyFields (d .table)) (keyBytes d) ≡ d .fields
+unfolding readColumn
+column-fields t [] d e = absurd (Option·none-ne-some d e)
+column-fields t (c ∷ v) d e =
+    let p = cond-some (lists t c) (readIndex t c v) d e in
+    let a = map-some (λ xs. record { table = t; column = c; fields = xs }) (parseIndex (keyFields t) v) (p .1) in
+    rw (← a .1 .1) (values-made (keyFields t) (a .0) (index-parsed (keyFields t) v (a .0) (a .1 .0) .0))
+
+read-fields : (oid : List ℕ) (d : Reading) → readInstance oid ≡ some d → values (keyFields (d .table)) (keyBytes d) ≡ d .fields
+unfolding readInstance
+read-fields oid d e =
+    let a = then-some (tableOf oid) (λ t. readColumn t (drop (length (base t)) oid)) e in
+    column-fields (a .0) (drop (length (base (a .0))) oid) d (a .1 .1)
+
+module _ (oid found after : List ℕ) where
+  -- what is handed over of a reading
+  pub record Handed (t : Table) (column n : ℕ) : Type 0 where
+    pub key-room : n ≤ length after
+    pub key-sound : faults (keyFields t) (take (n - 0) after) ≡ none
+    pub text-is : instanceIs t column (take (n - 0) after) ≡ decodedText (readInstance oid)
+
+  module _ (d : Reading) (q : readInstance oid ≡ some d) (b : after ≡ keyBytes d ++ drop (length (keyBytes d)) found) where
+    key-is : take (length (keyBytes d) - 0) after ≡ keyBytes d
+    key-is =
+        let z : length (keyBytes d) - 0 ≡ length (keyBytes d) = omega arith in
+        rw (z, b) (take-append-seam (keyBytes d) (drop (length (keyBytes d)) found))
+
+    handed : Handed (d .table) (d .column) (length (keyBytes d))
+    handed = record {
+      key-room = omega (arith, ap length b, length-append (keyBytes d) (drop (length (keyBytes d)) found));
+      key-sound = rw key-is (writes-read oid d q .encodable .sound);
+      text-is = rw (key-is, q, read-fields oid d q);
+    }
+
+  delivered : (o : Option Reading) → readInstance oid ≡ o → {t : Table} {column n : ℕ} → Instance t column n ≡ decoded o
+      → after ≡ buffered o found → Handed t column n
+  delivered none q i b = let z : _≡_ {A = ℕ} 0 1 = cc in absurd (omega arith)
+  delivered (some d) q {t} {column} {n} i b =
+      let x : t ≡ d .table = cc in
+      let y : column ≡ d .column = cc in
+      let z : n ≡ length (keyBytes d) = cc in
+      rw (x, y, z) (handed d q b)
+
+  undelivered : (o : Option Reading) {f : Fault} → Faulty f ≡ decoded o → faultText f ≡ decodedText o
+  undelivered none {f} q = let z : f ≡ NotAnInstance = cc in ap faultText z
+  undelivered (some d) q = cc
+
+  module _ {r : Decoded} (p : Delivers (readInstance oid) found after r) where
+    pub decoded-handed : {t : Table} {column n : ℕ} → r ≡ Instance t column n → Handed t column n
+    decoded-handed q = delivered (readInstance oid) refl (sym q ∙ p .answer-is) (p .buffer-is)
+
+    pub decoded-fault : {f : Fault} → r ≡ Faulty f → faultText f ≡ decodedText (readInstance oid)
+    decoded-fault q = undelivered (readInstance oid) (sym q ∙ p .answer-is)
+
+-- ---- an image
+
+held-short : (w : List ℕ) → Bytes w → (t : Tables) → held w ≡ some t → length (imageOf t) ≤ room
+unfolding held
+held-short w b t e =
+    by (isSound w)
+    (λ h.
+    let z : tablesIn w ≡ t = let y : some (tablesIn w) ≡ some t = sym (cond-true _ _ h) ∙ e in cc in
+    let s = store-sound w h in
+    omega (arith, ap (λ u. length (imageOf u)) z, length-again w b (s .rows-sound) (s .end-in), s .end-in, s .size-is))
+    (λ h. let y : none ≡ some t = sym (cond-false _ _ h) ∙ e in absurd (Option·none-ne-some t y))
+
+module _ (w found after : List ℕ) (b : Bytes w) (l : length found ≡ room) where
+  pub record Image (n : ℕ) : Type 0 where
+    pub image-room : n ≤ length after
+    pub image-few : length (take (n - 0) after) ≤ room
+    pub text-is : imageText ++ hexText (take (n - 0) after) ≡ imageTextOf (held w)
+
+  module _ (t : Tables) (q : held w ≡ some t) where
+    fits : leb (length (imageOf t)) (length found) ≡ true
+    fits = le-leb (length (imageOf t)) (length found) (omega (arith, held-short w b t q))
+
+    made : after ≡ overlaid (imageOf t) found → Image (length (imageOf t))
+    made a =
+        let z : length (imageOf t) - 0 ≡ length (imageOf t) = omega arith in
+        let k : take (length (imageOf t) - 0) after ≡ imageOf t =
+        rw (z, a) (take-append-seam (imageOf t) (drop (length (imageOf t)) found)) in
+        record {
+          image-room = omega (arith, ap length a, length-append (imageOf t) (drop (length (imageOf t)) found));
+          image-few = rw k (held-short w b t q);
+          text-is = rw (k, q);
+        }
+
+  wrote : (o : Option Tables) → held w ≡ o → {n : ℕ} → Length n ≡ writtenOf o (length found) → after ≡ bufferOf o found → Image n
+  wrote none q i a = let z : _≡_ {A = ℕ} 0 1 = cc in absurd (omega arith)
+  wrote (some t) q {n} i a =
+      let f = fits t q in
+      let j : Length n ≡ Length (length (imageOf t)) = i ∙ cond-true _ _ f in
+      let z : n ≡ length (imageOf t) = cc in
+      rw z (made t q (a ∙ cond-true _ _ f))
+
+  refused : (o : Option Tables) → held w ≡ o → {f : Fault} → Unwritten f ≡ writtenOf o (length found) → faultText f ≡ imageTextOf o
+  refused none q {f} i = let z : f ≡ NotSound = cc in ap faultText z
+  refused (some t) q {f} i = let j : Unwritten f ≡ Length (length (imageOf t)) = i ∙ cond-true _ _ (fits t q) in cc
+
+  module _ {r : Written} (p : Writes (held w) found after r) where
+    pub image-told : {n : ℕ} → r ≡ Length n → Image n
+    image-told q = wrote (held w) refl (sym q ∙ p .answer-is) (p .buffer-is)
+
+    pub image-refused : {f : Fault} → r ≡ Unwritten f → faultText f ≡ imageTextOf (held w)
+    image-refused q = refused (held w) refl (sym q ∙ p .answer-is)
+
+pub hex-fits : (image out : List ℕ) → length image ≤ room → 95000 ≤ length out → 0 + length (imageText ++ hexText image) ≤ length out
+hex-fits image out h l = omega (arith, length-append imageText (hexText image), length-hex image)
+
+-- ---- an image that is refused
+
+abbrev pub refusalIs : Fault → List ℕ
+refusalIs f = decimalText 0 ++ (32 ∷ (faultText f ++ (10 ∷ [])))
+
+pub refusal-fits : (f : Fault) (out : List ℕ) → 64 ≤ length out → 0 + length (refusalIs f) ≤ length out
+refusal-fits f out h =
+    omega (
+      arith,
+      length-append (decimalText 0) (32 ∷ (faultText f ++ (10 ∷ []))),
+      length-append (faultText f) (10 ∷ []),
+      length-decimal 0,
+      length-decimal (faultNumber f),
+    )
