@@ -1,7 +1,9 @@
 //! The proved code beside the hand-written implementation: one process, the same input, both release builds. Prints a table of
 //! ratios (proved / hand-written): the median over batches that alternate, with the least and the greatest.
 //!
-//!     benchmark [--batches N] [--milliseconds N]
+//!     benchmark [--batches N] [--milliseconds N] [--only TEXT]
+//!
+//! `--only` measures the rows whose title has TEXT.
 
 #[cfg(not(agent_linked))]
 compile_error!("the archive libagent.a is not there: build it by `rt staticlib agent`, or name its folder in DUGWALEN_STATICLIB_DIR");
@@ -138,6 +140,7 @@ fn now() -> u128 {
 struct Bench {
     batches: usize,
     nanoseconds: u128,
+    only: String,
     /// Answers of the two sides that differ: no figure counts then.
     differ: bool,
 }
@@ -146,6 +149,9 @@ impl Bench {
     /// One row of the table. Each side does the work once and says its answer, which must be the same.
     fn row(&mut self, title: &str, mut proved: impl FnMut() -> u64, mut by_hand: impl FnMut() -> u64) {
         let (a, b) = (proved(), by_hand());
+        if !title.contains(&self.only) {
+            return;
+        }
         if a != b {
             println!("| {title} | the answers differ: {a} and {b} | | | |");
             self.differ = true;
@@ -403,15 +409,17 @@ fn store_rows(bench: &mut Bench) {
 }
 
 fn main() -> ExitCode {
-    let mut bench = Bench { batches: 41, nanoseconds: 2_000_000, differ: false };
+    let mut bench = Bench { batches: 41, nanoseconds: 2_000_000, only: String::new(), differ: false };
     let mut words = std::env::args().skip(1);
     while let Some(word) = words.next() {
-        let value = words.next().and_then(|value| value.parse::<u32>().ok()).filter(|value| *value > 0);
+        let text = words.next().unwrap_or_default();
+        let value = text.parse::<u32>().ok().filter(|value| *value > 0);
         match (word.as_str(), value) {
+            ("--only", _) => bench.only = text,
             ("--batches", Some(value)) => bench.batches = value as usize,
             ("--milliseconds", Some(value)) => bench.nanoseconds = 1_000_000 * u128::from(value),
             _ => {
-                println!("usage: benchmark [--batches N] [--milliseconds N]");
+                println!("usage: benchmark [--batches N] [--milliseconds N] [--only TEXT]");
                 return ExitCode::FAILURE;
             }
         }
