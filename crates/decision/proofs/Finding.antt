@@ -1,50 +1,50 @@
--- A row chosen in one pass over a table, carried along where it lies.
+-- A row chosen in one pass over a table.
 -- The best access row: what is carried has the rank that is carried, so that a row of a greater rank takes its place and any other leaves it;
--- at the end it is the choice of step 3, since levels and prefixes are in their ranges. The row of a view: one that is in the view and
--- matches takes the place of what is carried; at the end it is the choice of step 5, since the rows ascend. Assumes nothing.
-use mathlib.Core.Path.{_≡_, refl, ap, _∙_}
+-- at the end it is the choice of step 3, since levels and prefixes are in their ranges. The row of a view, from the end: of the rows passed none
+-- that is in the view matches, so that one which does is the last; it is the choice of step 5, since the rows ascend. Assumes nothing.
+use mathlib.Core.Path.{_≡_, refl, sym, ap, _∙_}
+use mathlib.Core.Logic.{⊎-elim}
 use mathlib.Core.Bool.{Bool, true, false, cond, _&&_, _||_}
-use mathlib.Core.List.{List, [], map}
+use mathlib.Core.List.{List, [], _∷_, _++_, map, map-append}
 use mathlib.Core.Option.{Option, none, some, Option·map}
-use Prim.Native.Nat.{ℕ, _+_, _≤_, _<_}
+use Prim.Native.Nat.{ℕ, _+_, _-_, _*_, _≤_, _<_}
 use native.Mathlib.Omega.{arith}
-use lib.ListN.{length, drop}
+use lib.ListN.{length, take, drop}
 use lib.Dec.{ltb}
+use types.Run.{OneOf}
+use denote.Enum.Declared.{tagOf}
 use borrow.Author.Tests.{lt-ltb, le-ltb}
-use Rattle.answers.specs.declared.Fault.{Fault}
 use Rattle.lists.specs.Lists.{keep, every, any, OnSome, isNone}
 use Rattle.lists.specs.Scans.{latest, better, best}
-use Rattle.lists.proofs.Bools.{or-right}
+use Rattle.lists.proofs.Bools.{or-left, or-right, or-false-left, or-false-right, or-neither}
 use Rattle.lists.proofs.Keeps.{every-imp, every-map}
+use Rattle.lists.proofs.Scans.{latest-append}
 use Rattle.rows.specs.declared.Table.{Table}
 use Rattle.rows.specs.declared.Table.the-variants.{Access, View}
 use Rattle.rows.specs.Fields.{faults}
 use Rattle.rows.specs.Rows.{AccessRow, ViewRow, rowFields, accessOf, viewOf}
 use Rattle.image.specs.declared.Extent.{Extent}
-use Rattle.image.specs.Layout.{pair, rowsIn}
+use Rattle.image.specs.Layout.{pair, rowsIn, endOf}
 use Rattle.image.specs.Image.{tableFault, SoundTable}
-use Rattle.image.proofs.Walks.{piece}
+use Rattle.image.proofs.Walks.{piece, rest, Walk, rest-end}
 use Rattle.image.proofs.Sound.{every-whole, ascends-rows}
 use Rattle.procedure.specs.declared.Sighting.{Sighting}
 use Rattle.procedure.specs.declared.Sighting.the-variants.{Elsewhere, Unmatched, Matched}
+use Rattle.procedure.proofs.Sighting.{the-type}
 use Rattle.procedure.specs.Decision.{chosenAccess, inView, matches, chosenView}
 use Rattle.procedure.specs.Bytes.{Whole, rankOf, sighting}
 use Rattle.procedure.proofs.Choices.{chosen-best, chosen-latest-of}
 use Rattle.procedure.proofs.Layouts.{access-ranked}
-use Rattle.decision.specs.declared.Viewed.{Viewed}
 use Rattle.decision.specs.declared.Found.{Found}
 use Rattle.decision.specs.declared.Found.the-variants.{Row, Nothing}
-use Rattle.decision.specs.Found.{bytesAt, FoundIn, Chosen, carried}
+use Rattle.decision.specs.Found.{bytesAt, FoundIn, Chosen}
+use Rattle.decision.proofs.Backwards.{is-none, back-start, back-end, back-place, back-walk, back-rest, back-rows, back-whole}
 use Rattle.decision.proofs.Scanning.{Scan, scan-start, scan-row, scan-whole, scan-next, scan-end}
 
 -- ---- whole rows
 
 -- what each whole row passes
 module _ {R : Type 0} (t : Table) (of : List ℕ → R) (g : R → Bool) (h : (row : List ℕ) → Whole t row → g (of row) ≡ true) where
-  is-none : (o : Option Fault) → isNone o ≡ true → o ≡ none
-  is-none none e = refl
-  is-none (some f) e = cc
-
   every-of : (rows : List (List ℕ)) → tableFault t [] rows ≡ none → every g (map of rows) ≡ true
   every-of rows e =
       every-map of g rows
@@ -137,71 +137,116 @@ best-end group model level context {w} {x} k s h =
 
 -- ---- steps 4 and 5
 
-module _ (v : Viewed) (at end : ℕ) where
-  -- by whether the row is in the view, and whether it matches
-  carried-any : (a m b : Bool) → v .any || (a || b) ≡ carried v (cond a (cond m Matched Unmatched) Elsewhere) at end .any || b
-  unfolding carried
-  carried-any true true b = or-right (v .any) refl
-  carried-any true false b = or-right (v .any) refl
-  carried-any false m b = refl
+module _ {A : Type 0} (p : A → Bool) where
+  -- a row that passes, and none behind it
+  latest-rest : (o : Option A) (xs : List A) → any p xs ≡ false → latest p o xs ≡ o
+  latest-rest o [] h = refl
+  latest-rest o (x ∷ xs) h = rw (or-false-left (p x) _ h) (latest-rest o xs (or-false-right (p x) _ h))
 
-  module _ (w : List ℕ) where
-    carried-row : (a m : Bool) → cond (a && m) (some (viewOf (piece w at end))) (Option·map viewOf (bytesAt w (v .row)))
-        ≡ Option·map viewOf (bytesAt w (carried v (cond a (cond m Matched Unmatched) Elsewhere) at end .row))
-    unfolding carried
-    carried-row true true = refl
-    carried-row true false = refl
-    carried-row false m = refl
+  latest-at : (o : Option A) (xs : List A) (y : A) (ys : List A) → p y ≡ true → any p ys ≡ false → latest p o (xs ++ (y ∷ ys)) ≡ some y
+  latest-at o xs y ys e h = latest-append p o xs (y ∷ ys) ∙ rw e (latest-rest (some y) ys h)
 
-    carried-held : (a m : Bool) → Held View w (v .row) → Held View w (Row at end)
-        → Held View w (carried v (cond a (cond m Matched Unmatched) Elsewhere) at end .row)
-    unfolding carried
-    carried-held true true h k = k
-    carried-held true false h k = h
-    carried-held false m h k = h
-
-or-none : (b : Bool) → b ≡ b || false
-or-none true = refl
-or-none false = refl
-
--- whether there is a row of the view, with what is known; and the latest that matches, with what is carried
-abbrev anyFrom : List ℕ → Viewed → List (List ℕ) → Bool
-anyFrom name v rs = v .any || any (inView name) (map viewOf rs)
+  any-at : (xs : List A) (y : A) (ys : List A) → p y ≡ true → any p (xs ++ (y ∷ ys)) ≡ true
+  any-at [] y ys e = or-left _ e
+  any-at (x ∷ xs) y ys e = or-right (p x) (any-at xs y ys e)
 
 abbrev sought : List ℕ → List ℕ → ViewRow → Bool
 sought name variable r = inView name r && matches variable r
 
-abbrev latestFrom : List ℕ → List ℕ → List ℕ → Found → List (List ℕ) → Option ViewRow
-latestFrom name variable w found rs = latest (sought name variable) (Option·map viewOf (bytesAt w found)) (map viewOf rs)
+-- how a row stands, read back: whether it is in the view, and whether it is sought
+matched : (a m : Bool) → cond a (cond m Matched Unmatched) Elsewhere ≡ Matched → (a ≡ true) × (a && m ≡ true)
+matched true true e = (refl, refl)
+matched true false e = (cc, cc)
+matched false m e = (cc, cc)
 
-pub record Viewing (name variable w : List ℕ) (x : Extent) (i g o : ℕ) (v : Viewed) : Type 0 where
-  pub any-scan : Scan View w x (anyFrom name v) (any (inView name) (map viewOf (rowsIn w x))) i g o
-  pub row-scan : Scan View w x (latestFrom name variable w (v .row)) (latestFrom name variable w Nothing (rowsIn w x)) i g o
-  pub held : Held View w (v .row)
+unmatched : (a m : Bool) → cond a (cond m Matched Unmatched) Elsewhere ≡ Unmatched → (a ≡ true) × (a && m ≡ false)
+unmatched true true e = (cc, cc)
+unmatched true false e = (refl, refl)
+unmatched false m e = (cc, cc)
 
-pub viewing-start : (name variable : List ℕ) {w : List ℕ} {x : Extent} → SoundTable View w x
-    → Viewing name variable w x 0 (x .lengths) (x .rows) (record { any = false; row = Nothing })
-viewing-start name variable {w} s = record {
-  any-scan = scan-start (anyFrom name (record { any = false; row = Nothing })) s;
-  row-scan = scan-start (latestFrom name variable w Nothing) s;
-  held = held-none View w;
-}
+elsewhere : (a m : Bool) → cond a (cond m Matched Unmatched) Elsewhere ≡ Elsewhere → (a ≡ false) × (a && m ≡ false)
+elsewhere true true e = (cc, cc)
+elsewhere true false e = (cc, cc)
+elsewhere false m e = (refl, refl)
 
-module _ {name variable w : List ℕ} {x : Extent} {i g o : ℕ} {v : Viewed} (k : Viewing name variable w x i g o v) where
-  pub viewing-next : i < x .count → (l : ℕ) → l ≡ pair (drop g w) → (s : Sighting) → s ≡ sighting name variable (viewOf (piece w o (o + l)))
-      → Viewing name variable w x (i + 1) (g + 2) (o + l) (carried v s o (o + l))
-  unfolding sighting
-  viewing-next h l e s d =
-      let r = viewOf (piece w o (o + l)) in
-      rw d record {
-        any-scan = scan-next (k .any-scan) h l e _ (λ rs. carried-any v o (o + l) (inView name r) (matches variable r) _);
-        row-scan = scan-next (k .row-scan) h l e _ (λ rs. ap (λ u. latest (sought name variable) u (map viewOf rs)) (carried-row v o (o + l) w (inView name r) (matches variable r)));
-        held = carried-held v o (o + l) w (inView name r) (matches variable r) (k .held) (held-row View w o l (scan-row (k .any-scan) h l e) (scan-whole (k .any-scan) h l e));
-      }
+-- neither matched nor unmatched, by the numbers of the variants
+pub left-elsewhere : (s : Sighting) → OneOf (0 ∷ 1 ∷ []) (tagOf the-type s) → OneOf (0 ∷ 2 ∷ []) (tagOf the-type s) → s ≡ Elsewhere
+left-elsewhere Elsewhere a b = refl
+left-elsewhere Unmatched a b = absurd (⊎-elim (λ h. omega arith) (λ h. omega arith) b)
+left-elsewhere Matched a b = absurd (⊎-elim (λ h. omega arith) (λ h. omega arith) a)
 
-  pub viewing-any : x .count ≤ i → v .any ≡ any (inView name) (map viewOf (rowsIn w x))
-  viewing-any h = or-none (v .any) ∙ scan-end (k .any-scan) h
+-- i rows are left in front; whether one behind them is in the view is known, and none matches
+pub record Looking (name variable w : List ℕ) (x : Extent) (i g e : ℕ) (seen : Bool) : Type 0 where
+  pub walk : Walk w x i g e
+  pub any-seen : seen ≡ any (inView name) (map viewOf (rest w x i e))
+  pub none-matches : any (sought name variable) (map viewOf (rest w x i e)) ≡ false
 
-  pub viewing-row : SoundTable View w x → x .count ≤ i
-      → Chosen View viewOf w (v .row) (chosenView variable (keep (inView name) (map viewOf (rowsIn w x))))
-  viewing-row s h = chosen (k .held) (scan-end (k .row-scan) h ∙ latest-chosen name variable (rowsIn w x) (s .rows-sound))
+-- none is behind the last
+pub looking-start : (name variable w : List ℕ) (x : Extent) {n g e : ℕ} → x .count ≡ n → x .lengths + 2 * x .count ≡ g → e ≡ endOf w x
+    → Looking name variable w x n g e false
+looking-start name variable w x {n} {g} {e} p q r =
+    let k = back-start w x p q r in
+    let z : rest w x n e ≡ [] = rest-end k (omega arith) in
+    record { walk = k; any-seen = rw z; none-matches = rw z }
+
+module _ {name variable w : List ℕ} {x : Extent} {i g e : ℕ} {seen : Bool} (k : Looking name variable w x i g e seen) where
+  -- none is left in front
+  pub looking-any : i ≤ 0 → seen ≡ any (inView name) (map viewOf (rowsIn w x))
+  looking-any h = k .any-seen ∙ ap (λ u. any (inView name) (map viewOf u)) (back-end (k .walk) h)
+
+  pub looking-none : SoundTable View w x → i ≤ 0 → Chosen View viewOf w Nothing (chosenView variable (keep (inView name) (map viewOf (rowsIn w x))))
+  looking-none t h =
+      let n : any (sought name variable) (map viewOf (rowsIn w x)) ≡ false = rw (← back-end (k .walk) h) (k .none-matches) in
+      chosen (held-none View w) (sym (latest-rest (sought name variable) none (map viewOf (rowsIn w x)) n) ∙ latest-chosen name variable (rowsIn w x) (t .rows-sound))
+
+  -- the row before e, of length l
+  module _ (h : 0 < i) (l : ℕ) (q : l ≡ pair (drop (g - 2) w)) where
+    abbrev row : ViewRow
+    row = viewOf (piece w (e - l) e)
+
+    passed : (b : Bool) → b ≡ inView name row || seen → sought name variable row ≡ false → Looking name variable w x (i - 1) (g - 2) (e - l) b
+    passed b a n =
+        let r = back-rest (k .walk) h l q in
+        record {
+          walk = back-walk (k .walk) h l q;
+          any-seen = rw r (a ∙ ap (λ u. inView name row || u) (k .any-seen));
+          none-matches = rw r (or-neither n (k .none-matches));
+        }
+
+    module _ (s : Sighting) (d : s ≡ sighting name variable row) where
+      pub looking-unmatched : s ≡ Unmatched → Looking name variable w x (i - 1) (g - 2) (e - l) true
+      unfolding sighting
+      looking-unmatched u =
+          let z = unmatched (inView name row) (matches variable row) (sym d ∙ u) in
+          passed true (sym (or-left seen (z .0))) (z .1)
+
+      pub looking-elsewhere : s ≡ Elsewhere → Looking name variable w x (i - 1) (g - 2) (e - l) seen
+      unfolding sighting
+      looking-elsewhere u =
+          let z = elsewhere (inView name row) (matches variable row) (sym d ∙ u) in
+          passed seen (sym (ap (λ b. b || seen) (z .0))) (z .1)
+
+      module _ (u : s ≡ Matched) where
+        front : List ViewRow
+        front = map viewOf (take (i - 1) (rowsIn w x))
+
+        rows-are : map viewOf (rowsIn w x) ≡ front ++ (row ∷ map viewOf (rest w x i e))
+        unfolding front
+        rows-are = ap (map viewOf) (back-rows (k .walk) h l q) ∙ map-append viewOf (take (i - 1) (rowsIn w x)) _
+
+        pub looking-some : true ≡ any (inView name) (map viewOf (rowsIn w x))
+        unfolding sighting
+        looking-some =
+            let z = matched (inView name row) (matches variable row) (sym d ∙ u) in
+            sym (ap (any (inView name)) rows-are ∙ any-at (inView name) front row _ (z .0))
+
+        pub looking-found : SoundTable View w x → Chosen View viewOf w (Row (e - l) e) (chosenView variable (keep (inView name) (map viewOf (rowsIn w x))))
+        unfolding sighting
+        looking-found t =
+            let z = matched (inView name row) (matches variable row) (sym d ∙ u) in
+            let p = sought name variable in
+            record {
+              lies = (omega arith, back-place (k .walk) (t .inside));
+              whole = back-whole (k .walk) h l q t;
+              is = sym (ap (latest p none) rows-are ∙ latest-at p none front row _ (z .1) (k .none-matches)) ∙ latest-chosen name variable (rowsIn w x) (t .rows-sound);
+            }

@@ -1,4 +1,5 @@
 pub mod Scanning
+pub mod Backwards
 pub mod Finding
 pub mod Spelling
 pub mod Answers

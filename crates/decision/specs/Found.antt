@@ -1,6 +1,5 @@
 -- A row found where it lies in the bytes of an image. Assumes nothing.
 use mathlib.Core.Path.{_≡_}
-use mathlib.Core.Bool.{Bool, true}
 use mathlib.Core.List.{List}
 use mathlib.Core.Option.{Option, none, some, Option·map}
 use Prim.Native.Nat.{ℕ, _-_, _≤_}
@@ -8,9 +7,6 @@ use lib.ListN.{length, take, drop}
 use Rattle.lists.specs.Lists.{OnSome}
 use Rattle.rows.specs.declared.Table.{Table}
 use Rattle.procedure.specs.Bytes.{Whole}
-use Rattle.procedure.specs.declared.Sighting.{Sighting}
-use Rattle.procedure.specs.declared.Sighting.the-variants.{Elsewhere, Unmatched, Matched}
-use Rattle.decision.specs.declared.Viewed.{Viewed}
 use Rattle.decision.specs.declared.Found.{Found}
 use Rattle.decision.specs.declared.Found.the-variants.{Row, Nothing}
 
@@ -29,9 +25,3 @@ pub record Chosen {R : Type 0} (t : Table) (of : List ℕ → R) (w : List ℕ) 
   pub lies : FoundIn w found
   pub whole : OnSome (Whole t) (bytesAt w found)
   pub is : Option·map of (bytesAt w found) ≡ choice
-
--- what is known of a view after one row more
-unfoldable pub carried : Viewed → Sighting → ℕ → ℕ → Viewed
-carried v Elsewhere at end = v
-carried v Unmatched at end = record { any = true; row = v .row }
-carried v Matched at end = record { any = true; row = Row at end }

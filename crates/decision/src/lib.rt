@@ -1,4 +1,4 @@
-// The decision of RFC 3415, section 3.2, over the bytes of a table image where they lie: each table is walked once, and no row is compared twice.
+// The decision of RFC 3415, section 3.2, over the bytes of a table image where they lie: each table's rows are passed once at most.
 use answers::Answer;
 use answers::Cause;
 use answers::Decision;
@@ -17,13 +17,13 @@ ghost use Rattle.lists.specs.Lists.{any, find, keep};
 ghost use Rattle.rows.specs.declared.Table.the-variants.{Context, Mapping, Access, View};
 ghost use Rattle.rows.specs.Fields.{word, bytesOf};
 ghost use Rattle.rows.specs.Rows.{contextOf, mappingOf, accessOf, viewOf};
-ghost use Rattle.image.specs.Layout.{rowsIn};
+ghost use Rattle.image.specs.Layout.{rowsIn, endOf, Inside};
 ghost use Rattle.image.specs.Image.{SoundTable, SoundLayout, tablesAt};
 ghost use Rattle.image.specs.Store.{held};
 ghost use Rattle.procedure.specs.Request.{asked, inRange};
 ghost use Rattle.procedure.specs.Decision.{bearsContext, mapsPrincipal, chosenAccess, viewFor, inView, chosenView, viewRows, step2, step3, step4, decision, answer};
 ghost use Rattle.procedure.specs.Bytes.{Whole, identifier};
-ghost use Rattle.decision.specs.Found.{Chosen, carried};
+ghost use Rattle.decision.specs.Found.{Chosen};
 
 // A row's place in the image.
 pub enum Found {
@@ -122,43 +122,53 @@ fn find_access(
 
 // ---- steps 4 and 5: in the order of the indices the last row of a view that matches is the longest, then the greatest
 
-fn carry(v: Viewed, s: Sighting, at: usize, end: usize) -> Viewed
-    ensures { λ r. ⌜ r ≡ carried v s at end ⌝ }
+// Where the rows end. They lie within the image, so that their number needs no limit.
+fn rows_end(w: &[u8], x: Extent) -> usize
+    requires { ⌜ Inside (now w) x ⌝ }
+    ensures { λ r. ⌜ r ≡ endOf (now (w .entry)) x ⌝ }
 {
-    match s {
-        Sighting::Elsewhere => v,
-        Sighting::Unmatched => {
-            let row = v.row;
-            Viewed { any: true, row }
-        }
-        Sighting::Matched => Viewed {
-            any: true,
-            row: Found::Row(at, end),
-        },
+    let n = x.count;
+    let mut i = 0;
+    let mut g = x.lengths;
+    let mut e = x.rows;
+    while i < n {
+        e += image::pair_at(w, g);
+        g += 2;
+        i += 1;
     }
+    e
 }
 
+// From the end, so that the first row that matches is the one.
 fn find_view(w: &[u8], x: Extent, name: &[u8], variable: &[u8]) -> Viewed
     requires { ⌜ SoundTable View (now w) x ⌝ }
     ensures some { λ r. ⌜ r .any ≡ any (inView (now (name .entry))) (map viewOf (rowsIn (now (w .entry)) x)) ⌝ }
     ensures row { λ r. ⌜ Chosen View viewOf (now (w .entry)) (r .row) (chosenView (identifier (now (variable .entry))) (keep (inView (now (name .entry))) (map viewOf (rowsIn (now (w .entry)) x)))) ⌝ }
 {
-    let n = x.count;
-    let mut i = 0;
-    let mut g = x.lengths;
-    let mut o = x.rows;
-    let mut v = Viewed {
-        any: false,
-        row: Found::Nothing,
-    };
-    while i < n {
-        let e = o + image::pair_at(w, g);
-        v = carry(v, procedure::sight(&w[o..e], name, variable), o, e);
-        g += 2;
-        o = e;
-        i += 1;
+    let mut i = x.count;
+    let mut g = x.lengths + 2 * i;
+    let mut e = rows_end(w, x);
+    let mut any = false;
+    while 0 < i {
+        g -= 2;
+        let o = e - image::pair_at(w, g);
+        let s = procedure::sight(&w[o..e], name, variable);
+        if let Sighting::Matched = s {
+            return Viewed {
+                any: true,
+                row: Found::Row(o, e),
+            };
+        }
+        if let Sighting::Unmatched = s {
+            any = true;
+        }
+        e = o;
+        i -= 1;
     }
-    v
+    Viewed {
+        any,
+        row: Found::Nothing,
+    }
 }
 
 fn by_view(w: &[u8], x: Extent, name: &[u8], variable: &[u8]) -> Decision

@@ -1,8 +1,8 @@
 -- A row of a table exchanged, in the bytes of an image.
 -- The image's tables are those ahead of table t, table t and those behind (`Splits`), and the place splits table t's rows once more; so
--- all rows of the image are those on the left of the place, the one that goes out, if any, and those on the right (`swap`). The two
--- splices swap it, and with the count's low octet the bytes are the image of the same tables with table t's rows exchanged; so those
--- are the tables read off them. Assumes nothing.
+-- all rows of the image are those on the left of the place, the one that goes out, if any, and those on the right (`swap`). The splice
+-- of its length and its bytes swaps it, and with the count's low octet the bytes are the image of the same tables with table t's rows
+-- exchanged; so those are the tables read off them. Assumes nothing.
 use mathlib.Core.Path.{_≡_, refl, sym, ap, ap₂, subst, _∙_}
 use mathlib.Core.Bool.{Bool, true, false, cond}
 use mathlib.Core.List.{List, [], _∷_, _++_, map, append-assoc, append-nil}
@@ -18,7 +18,7 @@ use Rattle.rows.specs.declared.Table.the-variants.{Context, Mapping, Access, Vi
 use Rattle.rows.proofs.Inverse.{Bytes}
 use Rattle.image.specs.declared.Extent.{Extent}
 use Rattle.image.specs.Layout.{total, lengthsIn, rowsIn, endOf, layoutOf}
-use Rattle.splice.specs.Splice.{spliced}
+use Rattle.splice.specs.Splice.{splicedTwo}
 use Rattle.exchange.specs.declared.Place.{Place}
 use Rattle.exchange.specs.Exchange.{extentOf, position, countAt, tableRows, number, PlaceIn, ImageIn, rowCount, imageEnd, exchanged, oneRow, Exchanges}
 use Rattle.exchange.proofs.Written.{joined, joined-append, heads, length-heads, set-heads, total-lengths}
@@ -206,7 +206,7 @@ module _ {t : Table} {w : List ℕ} {x : Extent} {p : Place} {end : ℕ} (q : As
 
     -- the bytes afterwards
     module _ (y : List ℕ) (l : length y ≡ length w)
-        (f : y ≡ set (spliced (spliced w (p .from) (p .end - p .from) end (joined new)) (x .lengths + 2 * p .row) (2 * number (p .held)) (end - (p .end - p .from) + length (joined new)) (heads new)) (countAt t) c) where
+        (f : y ≡ set (splicedTwo w (x .lengths + 2 * p .row) (2 * number (p .held)) (heads new) (p .from) (p .end - p .from) end (joined new)) (countAt t) c) where
       abbrev tail : List ℕ
       tail = swapped swap new .0
 
@@ -237,8 +237,8 @@ module _ {t : Table} {w : List ℕ} {x : Extent} {p : Place} {end : ℕ} (q : As
       }
 
   -- as the code does it, with one row or none
-  module _ (row : List ℕ) {v u : List ℕ} {has had at : ℕ} (a : v ≡ spliced w (p .from) (p .end - p .from) end row)
-      (b : u ≡ spliced v (x .lengths + 2 * p .row) (2 * had) (end - (p .end - p .from) + length row) (take (2 * has - 0) (length row / 256 ∷ length row % 256 ∷ []))) where
+  module _ (row : List ℕ) {u : List ℕ} {has had at : ℕ}
+      (a : u ≡ splicedTwo w (x .lengths + 2 * p .row) (2 * had) (take (2 * has - 0) (length row / 256 ∷ length row % 256 ∷ [])) (p .from) (p .end - p .from) end row) where
     pub exchanges-row : had ≡ number (p .held) → has ≡ number (ltb 0 (length row)) → at ≡ countAt t → length u ≡ length w
         → Exchanges t (p .row) (number (p .held)) (oneRow row) w (set u at (x .count + has - had))
     exchanges-row d e f l =
@@ -246,8 +246,7 @@ module _ {t : Table} {w : List ℕ} {x : Extent} {p : Place} {end : ℕ} (q : As
         let m : 2 * has - 0 ≡ 2 * number (ltb 0 (length row)) = omega (arith, e) in
         let h : take (2 * has - 0) (length row / 256 ∷ length row % 256 ∷ []) ≡ heads (oneRow row) =
         ap (λ k. take k (length row / 256 ∷ length row % 256 ∷ [])) m ∙ sym (heads-one row) in
-        let k : u ≡ spliced (spliced w (p .from) (p .end - p .from) end row) (x .lengths + 2 * p .row) (2 * number (p .held)) (end - (p .end - p .from) + length row) (heads (oneRow row)) =
-        rw (h, d, a) at b in
+        let k : u ≡ splicedTwo w (x .lengths + 2 * p .row) (2 * number (p .held)) (heads (oneRow row)) (p .from) (p .end - p .from) end row = rw (h, d) at a in
         exchanges (oneRow row) (x .count + has - had) (omega (arith, count-one row, number-most (ltb 0 (length row)))) (omega (arith, q .place-in .row-in))
         (set u at (x .count + has - had)) (length-set u at (x .count + has - had) ∙ l)
         (rw (f, joined-one row) (ap (λ z. set z (countAt t) (x .count + has - had)) k))

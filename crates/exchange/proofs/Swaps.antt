@@ -1,14 +1,14 @@
--- Rows swapped in the bytes of an image: the bytes are split once, and each splice puts new parts for old ones.
+-- Rows swapped in the bytes of an image: the bytes are split once, and new parts stand for two of them.
 -- An image's rows are those on the left of the place, those that go out and those on the right; ahead of all rows' bytes stand all their
--- lengths. First the bytes of the new rows stand for those that go out, then their lengths do, and what results is the image of the
+-- lengths. The lengths of the new rows stand for those of the rows that go out, and their bytes do, and what results is the image of the
 -- rows on the left, the new ones and those on the right (`swapped`). Assumes nothing.
 use mathlib.Core.Path.{_≡_, sym, _∙_}
 use mathlib.Core.List.{List, _++_, append-assoc}
-use Prim.Native.Nat.{ℕ, _+_, _-_, _*_}
+use Prim.Native.Nat.{ℕ, _+_, _*_}
 use native.Mathlib.Omega.{arith}
 use lib.ListN.{length, length-append}
-use Rattle.splice.specs.Splice.{spliced}
-use Rattle.splice.proofs.Laws.{spliced-app}
+use Rattle.splice.specs.Splice.{splicedTwo}
+use Rattle.splice.proofs.Laws.{two-app}
 use Rattle.exchange.proofs.Written.{joined, joined-append, heads, heads-append, length-heads}
 
 -- rows in bytes, with what lies ahead of them and behind
@@ -29,45 +29,22 @@ pub record Swap (w : List ℕ) (from gone place had end : ℕ) : Type 0 where
   pub gone-is : gone ≡ length (joined out)
   pub end-is : end ≡ from + gone + length (joined right)
 
-module _ (front : List ℕ) (left out right : List (List ℕ)) (rest : List ℕ) where
-  -- split at the bytes of the rows that go out, and at their lengths
-  laid-rows : laid front (left ++ (out ++ right)) rest
-      ≡ (front ++ (heads left ++ (heads out ++ (heads right ++ joined left)))) ++ (joined out ++ (joined right ++ rest))
-  laid-rows = simp (heads-append, joined-append, append-assoc)
-
-  laid-heads : laid front (left ++ (out ++ right)) rest
-      ≡ (front ++ heads left) ++ (heads out ++ ((heads right ++ (joined left ++ (joined out ++ joined right))) ++ rest))
-  laid-heads = simp (heads-append, joined-append, append-assoc)
-
--- the same with others' bytes there
-mixed : (front : List ℕ) (left out right new : List (List ℕ)) (rest : List ℕ)
-    → (front ++ (heads left ++ (heads out ++ (heads right ++ joined left)))) ++ (joined new ++ (joined right ++ rest))
-    ≡ (front ++ heads left) ++ (heads out ++ ((heads right ++ (joined left ++ (joined new ++ joined right))) ++ rest))
-mixed front left out right new rest = simp append-assoc
+-- split at the lengths of the rows that go out, and at their bytes
+laid-parts : (front : List ℕ) (left out right : List (List ℕ)) (rest : List ℕ) → laid front (left ++ (out ++ right)) rest
+    ≡ (front ++ heads left) ++ (heads out ++ ((heads right ++ joined left) ++ (joined out ++ (joined right ++ rest))))
+laid-parts front left out right rest = simp (heads-append, joined-append, append-assoc)
 
 module _ {w : List ℕ} {from gone place had end : ℕ} (s : Swap w from gone place had end) (new : List (List ℕ)) where
-  abbrev ahead : List ℕ
-  ahead = s .front ++ (heads (s .left) ++ (heads (s .out) ++ (heads (s .right) ++ joined (s .left))))
+  both : (tail : List ℕ) × (splicedTwo w place (2 * had) (heads new) from gone end (joined new)
+      ≡ (s .front ++ heads (s .left)) ++ (heads new ++ ((heads (s .right) ++ joined (s .left)) ++ (joined new ++ (joined (s .right) ++ tail)))))
+  both =
+      two-app w place (2 * had) (heads new) from gone end (joined new)
+      (s .front ++ heads (s .left)) (heads (s .out)) (heads (s .right) ++ joined (s .left)) (joined (s .out)) (joined (s .right)) (s .rest)
+      (s .bytes-are ∙ laid-parts (s .front) (s .left) (s .out) (s .right) (s .rest))
+      (simp (length-append, length-heads) (omega (arith, s .place-is)))
+      (omega (arith, length-heads (s .out), s .had-is))
+      (simp (length-append, length-heads) (omega (arith, s .place-is, s .had-is, s .from-is)))
+      (sym (s .gone-is)) (sym (s .end-is))
 
-  first : (tail : List ℕ) × (spliced w from gone end (joined new) ≡ ahead ++ (joined new ++ (joined (s .right) ++ tail)))
-  first =
-      spliced-app w from gone end (joined new) ahead (joined (s .out)) (joined (s .right)) (s .rest)
-      (s .bytes-are ∙ laid-rows (s .front) (s .left) (s .out) (s .right) (s .rest)) (simp (length-append, length-heads) (omega (arith, s .from-is))) (sym (s .gone-is)) (sym (s .end-is))
-
-  abbrev behind : List ℕ
-  behind = heads (s .right) ++ (joined (s .left) ++ (joined new ++ joined (s .right)))
-
-  second : (v rest : List ℕ) → v ≡ (s .front ++ heads (s .left)) ++ (heads (s .out) ++ (behind ++ rest))
-      → (tail : List ℕ) × (spliced v place (2 * had) (end - gone + length (joined new)) (heads new) ≡ (s .front ++ heads (s .left)) ++ (heads new ++ (behind ++ tail)))
-  second v rest e =
-      spliced-app v place (2 * had) (end - gone + length (joined new)) (heads new) (s .front ++ heads (s .left)) (heads (s .out)) behind rest e
-      (simp (length-append, length-heads) (omega (arith, s .place-is))) (omega (arith, length-heads (s .out), s .had-is))
-      (simp (length-append, length-heads) (omega (arith, s .place-is, s .had-is, s .from-is, s .end-is)))
-
-  both : (tail : List ℕ) × (spliced (spliced w from gone end (joined new)) place (2 * had) (end - gone + length (joined new)) (heads new)
-      ≡ (s .front ++ heads (s .left)) ++ (heads new ++ (behind ++ tail)))
-  both = second _ (first .0) (first .1 ∙ mixed (s .front) (s .left) (s .out) (s .right) new (first .0))
-
-  pub swapped : (tail : List ℕ) × (spliced (spliced w from gone end (joined new)) place (2 * had) (end - gone + length (joined new)) (heads new)
-      ≡ laid (s .front) (s .left ++ (new ++ s .right)) tail)
-  swapped = (both .0, both .1 ∙ sym (laid-heads (s .front) (s .left) new (s .right) (both .0)))
+  pub swapped : (tail : List ℕ) × (splicedTwo w place (2 * had) (heads new) from gone end (joined new) ≡ laid (s .front) (s .left ++ (new ++ s .right)) tail)
+  swapped = (both .0, both .1 ∙ sym (laid-parts (s .front) (s .left) new (s .right) (both .0)))

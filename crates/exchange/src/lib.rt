@@ -110,14 +110,12 @@ pub fn exchange(w: &mut [u8], t: Table, x: Extent, p: Place, end: usize, row: &[
     let from = p.from;
     let gone = p.end - from;
     let n = row.len();
-    splice::splice(w, from, gone, end, row);
     let place = x.lengths + 2 * p.row;
-    let stop = end - gone + n;
     let had = one_if(p.held);
     let has = one_if(0 < n);
     let head = [(n / 256) as u8, (n % 256) as u8];
     let used = 2 * has;
-    splice::splice(w, place, 2 * had, stop, &head[0..used]);
+    splice::splice_two(w, place, 2 * had, &head[0..used], from, gone, end, row);
     let at = count_at(t);
     w[at] = (x.count + has - had) as u8;
 }

@@ -2,7 +2,7 @@
 -- the table's fault is that of the rows that are left behind that row's index (`Judged`). Each answer about the next row settles it:
 -- a fault of its own, a key that is not above the last one, or else one row more is passed. Assumes nothing.
 use mathlib.Core.Path.{_≡_, refl, sym, ap, _∙_}
-use mathlib.Core.Bool.{false}
+use mathlib.Core.Bool.{true, false}
 use mathlib.Core.List.{List, [], _∷_}
 use mathlib.Core.Option.{none}
 use Prim.Native.Nat.{ℕ, _+_, _≤_, _<_}
@@ -12,10 +12,6 @@ use lib.Seq.{take-take}
 use Rattle.answers.specs.declared.Fault.{Fault}
 use Rattle.answers.specs.declared.Fault.the-variants.{NotAscending}
 use Rattle.lists.specs.Order.{before}
-use Rattle.lists.proofs.Bools.{is-false}
-use Rattle.octets.specs.declared.Order.the-variants.{Below}
-use Rattle.octets.specs.Order.{order}
-use Rattle.octets.proofs.Orders.{order-below}
 use Rattle.rows.specs.declared.Table.{Table}
 use Rattle.rows.specs.Fields.{faults, span}
 use Rattle.rows.specs.Rows.{keyFields, rowFields}
@@ -27,7 +23,7 @@ use Rattle.image.specs.declared.Extent.{Extent}
 use Rattle.image.specs.Layout.{pair, rowsIn, endOf}
 use Rattle.image.specs.Image.{indexOf, tableFault}
 use Rattle.image.proofs.Walks.{piece, piece-nil, piece-add, rest, Walk, rest-next, rest-end, walk-end}
-use Rattle.image.proofs.Keys.{Stands, stands-nil, stands-row, bytes-take, key-room}
+use Rattle.image.proofs.Keys.{Stands, stands-nil, stands-row, bytes-take, key-room, key-above-nil}
 use Rattle.image.proofs.Sound.{reached-at, reached-bad, fault-nil, fault-row, fault-order, fault-rest}
 
 pub record Judged (t : Table) (w : List ℕ) (x : Extent) (i o a e : ℕ) : Type 0 where
@@ -37,10 +33,6 @@ pub record Judged (t : Table) (w : List ℕ) (x : Extent) (i o a e : ℕ) : Type
 
 pub judged-start : (t : Table) (w : List ℕ) (x : Extent) (a : ℕ) → Judged t w x 0 (x .rows) a a
 judged-start t w x a = record { prev = []; stands = rw (piece-nil w a) (stands-nil t); left = refl }
-
-order-not-below : (a b : List ℕ) → (order a b ≡ Below → ⊥) → before a b ≡ false
-unfolding order
-order-not-below a b h = is-false (before a b) (λ e. h (rw e))
 
 -- the next row, of length l, judged with the answer s
 pub record Turn (t : Table) (w : List ℕ) (x : Extent) (i g o a e l : ℕ) (s : Step) : Type 0 where
@@ -84,14 +76,18 @@ module _ {t : Table} {w : List ℕ} {x : Extent} {i g o a e l : ℕ} {s : Step} 
     compared : before (piece w a e) (piece w o (o + z)) ≡ before prev (indexOf t row)
     compared = rw key (n .judged .stands row row-bytes (passed .0))
 
-    pub judged-low : (order (piece w a e) (piece w o (o + z)) ≡ Below → ⊥) → Step.Bad NotAscending ≡ reached (tableFault t [] (rowsIn w x)) (endOf w x)
-    judged-low q = sym (rw (goes ∙ fault-order t prev row _ (passed .0) (sym compared ∙ order-not-below _ _ q)))
+    pub judged-low : before (piece w a e) (piece w o (o + z)) ≡ false → Step.Bad NotAscending ≡ reached (tableFault t [] (rowsIn w x)) (endOf w x)
+    judged-low q = sym (rw (goes ∙ fault-order t prev row _ (passed .0) (sym compared ∙ q)))
 
-    pub judged-next : order (piece w a e) (piece w o (o + z)) ≡ Below → Judged t w x (i + 1) (o + l) o (o + z)
+    -- the first row stands behind none
+    pub judged-first : a ≡ e → before (piece w a e) (piece w o (o + z)) ≡ true
+    judged-first q = rw (← q, piece-nil w a, key) (key-above-nil t row (passed .0))
+
+    pub judged-next : before (piece w a e) (piece w o (o + z)) ≡ true → Judged t w x (i + 1) (o + l) o (o + z)
     judged-next q = record {
       prev = indexOf t row;
       stands = rw key (stands-row t row row-bytes (passed .0));
-      left = goes ∙ fault-rest t prev row _ (passed .0) (sym compared ∙ order-below _ _ q);
+      left = goes ∙ fault-rest t prev row _ (passed .0) (sym compared ∙ q);
     }
 
 -- no row is left

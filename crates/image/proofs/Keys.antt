@@ -68,6 +68,14 @@ stands-nil Mapping v b f = stands-front _ _ mappingRest v f
 stands-nil Access v b f = stands-front _ _ accessRest v f
 stands-nil View v b f = stands-front _ _ viewRest v f
 
+-- the key of a row without fault stands behind nothing
+pub key-above-nil : (t : Table) (v : List ℕ) → faults (rowFields t) v ≡ none → before [] (take (span (keyFields t) v) v) ≡ true
+unfolding keyFields rowFields
+key-above-nil Context v f = before-nil-front _ _ contextRest v f
+key-above-nil Mapping v f = before-nil-front _ _ mappingRest v f
+key-above-nil Access v f = before-nil-front _ _ accessRest v f
+key-above-nil View v f = before-nil-front _ _ viewRest v f
+
 pub stands-row : (t : Table) (u : List ℕ) → Bytes u → faults (rowFields t) u ≡ none → Stands t (take (span (keyFields t) u) u) (indexOf t u)
 stands-row t u b f v d g = compares-before (compares-keys t u v b d f g)
 

@@ -1,13 +1,12 @@
 // A table image judged where it lies: what is wrong with it, or where its tables are.
 use answers::Fault;
-use octets::Order;
 use rows::Step;
 use rows::Table;
 ghost use mathlib.Core.Path.{_≡_};
 ghost use mathlib.Core.List.{[]};
 ghost use Prim.Native.Nat.{_+_, _*_, _≤_, _<_};
 ghost use lib.ListN.{length, drop};
-ghost use Rattle.rows.specs.Judging.{reached};
+ghost use Rattle.rows.specs.Judging.{reached, rowStep};
 ghost use Rattle.image.specs.Layout.{pair, pairs, total, rowsIn, endOf, Inside, layoutOf, laidOut, called, withinLimits};
 ghost use Rattle.image.specs.Image.{tableFault, rowsFault, imageFault, surveyed, stoppedBy, soundly};
 ghost use Rattle.image.specs.Store.{storeFault};
@@ -73,6 +72,17 @@ pub fn end_of(w: &[u8], x: Extent) -> usize
     x.rows + sum(w, at, rows)
 }
 
+// A row judged: a legal one by a quick look at its lengths and its end, any other field by field.
+fn judge_row(t: Table, row: &[u8]) -> Step
+    ensures { λ r. ⌜ r ≡ rowStep t (now (row .entry)) ⌝ }
+{
+    let k = rows::key_end(t, row);
+    if k == 0 {
+        return rows::judge(t, row);
+    }
+    Step::At(k)
+}
+
 // The rows of a table judged one after the other: where they end.
 fn judge_table(w: &[u8], t: Table, x: Extent) -> Step
     requires { ⌜ Inside (now w) x ⌝ }
@@ -86,15 +96,16 @@ fn judge_table(w: &[u8], t: Table, x: Extent) -> Step
     let mut key = o;
     while i < n {
         let e = o + pair_at(w, g);
-        let s = rows::judge(t, &w[o..e]);
+        let s = judge_row(t, &w[o..e]);
         let Step::At(k) = s else {
             return s;
         };
         let end = o + k;
-        let order = octets::compare(&w[before..key], &w[o..end]);
-        let Order::Below = order else {
-            return Step::Bad(Fault::NotAscending);
-        };
+        if before < key {
+            if !octets::ascends(&w[before..key], &w[o..end]) {
+                return Step::Bad(Fault::NotAscending);
+            }
+        }
         before = o;
         key = end;
         g += 2;

@@ -3,3 +3,4 @@ pub mod Numerals
 pub mod Lines
 pub mod Steps
 pub mod Images
+pub mod Runs

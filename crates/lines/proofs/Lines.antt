@@ -1,21 +1,21 @@
 -- Laws of lines. A line is held without its newline, so what is held stands in front of the first part of what follows. Of a line that is too long
 -- the first 2,049 octets are told the same answer. Assumes nothing.
-use mathlib.Core.Path.{_≡_, refl, sym, ap, ap₂, _∙_}
-use mathlib.Core.Bool.{Bool, true, false, cond}
+use mathlib.Core.Path.{_≡_, refl, sym, ap, _∙_}
+use mathlib.Core.Bool.{false}
 use mathlib.Core.List.{List, [], _∷_, _++_, append-assoc, append-nil}
 use Prim.Native.Nat.{ℕ, zero, suc, _+_, _-_, _≤_, _<_, min}
 use native.Mathlib.Omega.{arith}
 use native.Mathlib.Numerals.{add-one}
 use lib.Dec.{eqb, leb, ltb}
-use lib.ListN.{length, take, drop, getD, length-append, length-take, length-drop, take-append-drop}
-use lib.Seq.{drop-cons, drop-drop, drop-length, length-take-le, take-all, take-append-add, take-length, take-paste, take-take, paste}
+use lib.ListN.{length, take, drop, getD, length-append, length-take, take-append-drop}
+use lib.Seq.{drop-cons, length-take-le, take-all, take-append-add, take-length, take-paste, take-take, paste}
 use borrow.Author.Tests.{eqb-true, leb-true, leb-false, ltb-true, ltb-false, lt-leb}
-use Rattle.lists.proofs.Bools.{split as by, clash}
+use Rattle.lists.proofs.Bools.{split as by}
 use Rattle.rows.specs.Tables.{Tables}
 use Rattle.words.specs.Words.{longer, split, run}
 use Rattle.lines.specs.Requests.{longest, lineAnswer}
 use Rattle.lines.specs.Lines.{ended, linesOf, told, report}
-use Rattle.words.proofs.Words.{run-most, run-mark, run-other, split-mark, split-other, split-some, split-last}
+use Rattle.words.proofs.Words.{run-mark, run-other, split-mark, split-other, split-some, split-last}
 
 -- ---- octets of one line: there is no newline among them
 

@@ -1,9 +1,9 @@
 -- Laws of requests. Words passed and the words of what is left make a line's words; a line of another number of words says no request, and of six
 -- words the request is what they say, none where one of them says nothing. Assumes nothing.
-use mathlib.Core.Path.{_≡_, refl, sym, ap, _∙_}
+use mathlib.Core.Path.{_≡_, sym, ap, _∙_}
 use mathlib.Core.Bool.{false}
 use mathlib.Core.List.{List, [], _∷_, _++_}
-use mathlib.Core.Option.{Option, none, some, bind}
+use mathlib.Core.Option.{Option, none, some}
 use Prim.Native.Nat.{ℕ, suc, _+_, _-_, _≤_, _<_}
 use native.Mathlib.Omega.{arith}
 use lib.Dec.{eqb}
@@ -18,9 +18,6 @@ use Rattle.lines.specs.Requests.{longest, request, requestOf, requestAns
 use Rattle.words.proofs.Words.{part-last, part-next, split-some}
 
 -- ---- a line's words
-
-pub below : {a b : ℕ} → a ≤ b → (a ≡ b → ⊥) → a < b
-below l n = omega arith
 
 module _ (passed : List (List ℕ)) (line : List ℕ) (at end : ℕ) (p : words line ≡ passed ++ words (drop at line)) (e : end ≡ at + run 32 (drop at line)) where
   pub words-next : end < length line → words line ≡ passed ++ (between at end line ∷ words (drop (end + 1) line))

@@ -1,12 +1,12 @@
 -- Steps through an input in pieces. Where the piece ends within a line, the line goes on being held; where a newline ends it, its answer is written
 -- behind what was written. Either way what is written and what is still to be written stay the same, and so it is with two steps. Assumes nothing.
 use mathlib.Core.Path.{_≡_, refl, sym, ap, _∙_}
-use mathlib.Core.List.{List, [], _∷_, _++_, append-assoc, append-nil}
+use mathlib.Core.List.{List, [], _++_, append-assoc, append-nil}
 use Prim.Native.Nat.{ℕ, suc, _+_, _-_, _≤_, _<_}
 use native.Mathlib.Omega.{arith}
 use lib.Dec.{ltb}
 use lib.ListN.{length, take, drop, length-drop}
-use lib.Seq.{drop-drop, drop-length, length-take-le, take-length}
+use lib.Seq.{drop-drop, drop-length, length-take-le}
 use borrow.Author.Tests.{ltb-true, ltb-false}
 use Rattle.lists.proofs.Bools.{split as by}
 use Rattle.rows.specs.Tables.{Tables}

@@ -1,2 +1,4 @@
 pub mod Requests
 pub mod Lines
+pub mod Runs
+pub mod Examples

@@ -1,16 +1,15 @@
 -- A request as a line of words, and the number that answers it (document 01, the program `tryreq`). Assumes nothing.
 use mathlib.Core.Path.{_≡_}
-use mathlib.Core.Bool.{Bool, true, false, cond}
+use mathlib.Core.Bool.{false, cond}
 use mathlib.Core.List.{List, [], _∷_}
 use mathlib.Core.Option.{Option, none, some, bind}
 use Prim.Native.Nat.{ℕ, _+_, _≤_, _<_}
 use lib.Dec.{eqb, leb}
-use lib.ListN.{length, getD, take, drop}
+use lib.ListN.{length, getD, take}
 use Rattle.answers.specs.Numbers.{answerNumber}
 use Rattle.rows.specs.Tables.{Tables}
 use Rattle.procedure.specs.Request.{Request, asked, legalRequest}
 use Rattle.procedure.specs.Decision.{judged}
-use Rattle.lines.specs.declared.Fields.{Fields}
 use Rattle.lines.specs.declared.Parsed.{Parsed}
 use Rattle.lines.specs.declared.Cut.{Cut}
 use Rattle.lines.specs.declared.Cut.the-variants.{Six, Other}

@@ -8,7 +8,7 @@ ghost use mathlib.Core.Path.{_≡_};
 ghost use mathlib.Core.List.{_++_};
 ghost use mathlib.Core.Option.{some};
 ghost use Prim.Native.Nat.{_+_, _-_, _*_, _≤_, _<_, min};
-ghost use lib.ListN.{length, take, drop};
+ghost use lib.ListN.{length, take};
 ghost use Rattle.image.specs.Image.{SoundLayout, tablesAt};
 ghost use Rattle.procedure.specs.Request.{asked};
 ghost use Rattle.words.specs.Words.{words, run, decimal as Words·decimal, hexOctets, dotted as Words·dotted};
@@ -23,6 +23,7 @@ pub enum Cut {
     Other,
 }
 
+// What the fields of a request say: the numbers, and how many octets or parts the names and the variable have.
 pub struct Fields {
     pub model: u32,
     pub level: u32,
@@ -41,26 +42,26 @@ fn six_words(line: &[u8]) -> Cut
     ensures { λ r. ⌜ Cuts r (now (line .entry)) ⌝ }
 {
     let a = words::word_end(line, 0);
-    if a == line.len() {
+    if line.len() <= a {
         return Cut::Other;
     }
     let b = words::word_end(line, a + 1);
-    if b == line.len() {
+    if line.len() <= b {
         return Cut::Other;
     }
     let c = words::word_end(line, b + 1);
-    if c == line.len() {
+    if line.len() <= c {
         return Cut::Other;
     }
     let d = words::word_end(line, c + 1);
-    if d == line.len() {
+    if line.len() <= d {
         return Cut::Other;
     }
     let e = words::word_end(line, d + 1);
-    if e == line.len() {
+    if line.len() <= e {
         return Cut::Other;
     }
-    if words::word_end(line, e + 1) != line.len() {
+    if words::word_end(line, e + 1) < line.len() {
         return Cut::Other;
     }
     Cut::Six(a, b, c, d, e)
@@ -122,18 +123,18 @@ pub fn parse_request(
     let Cut::Six(a, b, c, d, e) = six_words(line) else {
         return Parsed::Malformed;
     };
-    let level = a + 1;
-    let kind = b + 1;
-    let security = c + 1;
-    let inner = d + 1;
-    let object = e + 1;
+    let level_at = a + 1;
+    let kind_at = b + 1;
+    let name_at = c + 1;
+    let context_at = d + 1;
+    let variable_at = e + 1;
     parse_words(
         &line[0..a],
-        &line[level..b],
-        &line[kind..c],
-        &line[security..d],
-        &line[inner..e],
-        &line[object..],
+        &line[level_at..b],
+        &line[kind_at..c],
+        &line[name_at..d],
+        &line[context_at..e],
+        &line[variable_at..],
         name,
         context,
         variable,
@@ -225,7 +226,7 @@ pub fn put_number(out: &mut [u8], at: usize, n: u64) -> usize
     at + k
 }
 
-// Writes a line's number and its answer from `at` on: where they end.
+// Writes a line's number and its answer from `at` on: where they end. They take at most 42 octets: 20 digits each, a space, a newline.
 pub fn tell(out: &mut [u8], at: usize, number: u64, answer: u32) -> usize
     requires { ⌜ at + 42 ≤ length (now out) ⌝ }
     ensures { λ r. ⌜ (take r (now (out .exit)) ≡ take at (now (out .entry)) ++ told number answer) × (r ≤ at + 42) ⌝ }
@@ -239,6 +240,7 @@ pub fn tell(out: &mut [u8], at: usize, number: u64, answer: u32) -> usize
 
 // ---- lines that come in pieces
 
+// How much of a line is held, and where the piece was left: at a newline, or at its end.
 pub struct Continued {
     pub held: usize,
     pub end: usize,
@@ -351,7 +353,7 @@ pub fn answer_last(image: &[u8], l: Layout, p: Progress, line: &[u8], out: &mut 
     if held == 0 {
         return used;
     }
-    let number = p.number + 1;
+    let last = p.number + 1;
     let answer = answer_line(image, l, &line[0..held]);
-    tell(out, used, number, answer)
+    tell(out, used, last, answer)
 }

@@ -2,20 +2,20 @@
 -- and lists whose fronts are the same stand to each other as what follows the fronts does, so that the first octet that differs decides,
 -- or else the length. What each answer of `order` says of `before` comes last. Assumes nothing.
 use mathlib.Core.Path.{_≡_, refl, sym, ap₂, _∙_}
-use mathlib.Core.List.{List, _++_}
-use mathlib.Core.Bool.{Bool, true, false, cond, _&&_}
-use Prim.Native.Nat.{ℕ, zero, suc, _+_, _≤_, _<_}
+use mathlib.Core.List.{List, [], _∷_, _++_}
+use mathlib.Core.Bool.{Bool, true, false, cond, _&&_, _||_}
+use Prim.Native.Nat.{ℕ, zero, suc, _+_, _≤_, _<_, min}
 use native.Mathlib.Nat.{add-zero, add-suc, add-assoc}
 use native.Mathlib.Numerals.{add-one}
 use native.Mathlib.Omega.{arith}
-use lib.Dec.{eqb}
+use lib.Dec.{eqb, ltb}
 use lib.ListN.{length, take, drop, getD, take-append-drop, drop-of-length-le}
 use lib.Seq.{take-suc, take-all, drop-cons}
-use borrow.Author.Tests.{lt-ltb, le-ltb, ne-eqb, eqb-true}
+use borrow.Author.Tests.{lt-ltb, le-ltb, ne-eqb, eq-eqb, eqb-true, ltb-true, ltb-false}
 use Rattle.lists.specs.Order.{same, before}
-use Rattle.lists.proofs.Bools.{and-left, and-right}
+use Rattle.lists.proofs.Bools.{split, and-left, and-right}
 use Rattle.lists.proofs.Orders.{same-append, same-refl, same-true, before-append, before-irrefl, before-total}
-use Rattle.octets.specs.Order.{order, sameEight}
+use Rattle.octets.specs.Order.{order, sameEight, four}
 use Rattle.octets.specs.declared.Order.{Order}
 use Rattle.octets.specs.declared.Order.the-variants.{Below, Equal, Above}
 
@@ -51,6 +51,15 @@ module _ (a b : List ℕ) where
   -- fronts that are the whole lists
   pub take-whole : (i : ℕ) → length a ≤ i → length b ≤ i → take i a ≡ take i b → a ≡ b
   take-whole i ha hb t = sym (take-all i a ha) ∙ t ∙ take-all i b hb
+
+not-before-nothing : (a : List ℕ) → before a [] ≡ false
+unfolding before
+not-before-nothing [] = refl
+not-before-nothing (x ∷ xs) = refl
+
+or-none : (p : Bool) → p || false ≡ p
+or-none true = refl
+or-none false = refl
 
 -- a common front counts for nothing
 pub order-append : (p a b : List ℕ) → order (p ++ a) (p ++ b) ≡ order a b
@@ -89,6 +98,73 @@ module _ (a b : List ℕ) (i : ℕ) (t : take i a ≡ take i b) where
 
   pub order-end : length a ≤ i → length b ≤ i → order a b ≡ Equal
   order-end ha hb = rw (take-whole a b i ha hb t) (order-refl b)
+
+  -- the same of `before` alone
+  before-drop : before a b ≡ before (drop i a) (drop i b)
+  before-drop =
+      ap₂ before (sym (take-append-drop i a)) (sym (take-append-drop i b))
+      ∙ rw t (before-append (take i b) (drop i a) (drop i b))
+
+  pub before-differ : i < length a → i < length b → (getD a i 0 ≡ getD b i 0 → ⊥) → before a b ≡ ltb (getD a i 0) (getD b i 0)
+  unfolding before
+  before-differ ha hb n = before-drop ∙ rw (drop-cons a i 0, drop-cons b i 0, ne-eqb _ _ n) (or-none _)
+
+  pub before-ends : i ≡ min (length a) (length b) → before a b ≡ ltb (length a) (length b)
+  unfolding before
+  before-ends e =
+      split
+      (ltb (length a) (length b))
+      (λ l.
+      let s : length a < length b = ltb-true _ _ l in
+      let ha : length a ≤ i = omega arith in
+      let hb : i < length b = omega arith in
+      before-drop ∙ rw (drop-of-length-le a ha, drop-cons b i 0, l))
+      (λ l.
+      let s : length b ≤ length a = ltb-false _ _ l in
+      let hb : length b ≤ i = omega arith in
+      before-drop ∙ rw (drop-of-length-le b hb, l) (not-before-nothing (drop i a)))
+
+-- four octets as a number: such numbers are the same where the octets are, and else stand as the first octets that differ do
+module _ (a b : List ℕ) (i : ℕ) (t : take i a ≡ take i b) (ha : i + 4 ≤ length a) (hb : i + 4 ≤ length b)
+    (oa : (k : ℕ) → getD a k 0 < 256) (ob : (k : ℕ) → getD b k 0 < 256) where
+  next : (k : ℕ) → k < length a → k < length b → take k a ≡ take k b
+      → (getD a k 0 < getD b k 0 → four a i < four b i) → (getD b k 0 < getD a k 0 → four b i < four a i)
+      → (getD a k 0 ≡ getD b k 0 → before a b ≡ ltb (four a i) (four b i))
+      → before a b ≡ ltb (four a i) (four b i)
+  next k la lb s below above level =
+      split
+      (ltb (getD a k 0) (getD b k 0))
+      (λ l.
+      let p : getD a k 0 < getD b k 0 = ltb-true _ _ l in
+      before-differ a b k s la lb (λ z. omega arith) ∙ l ∙ sym (lt-ltb _ _ (below p)))
+      (λ l.
+      let p : getD b k 0 ≤ getD a k 0 = ltb-false _ _ l in
+      split
+      (ltb (getD b k 0) (getD a k 0))
+      (λ m.
+      let q : getD b k 0 < getD a k 0 = ltb-true _ _ m in
+      let r : four b i < four a i = above q in
+      before-differ a b k s la lb (λ z. omega arith) ∙ l ∙ sym (le-ltb (four a i) (four b i) (omega arith)))
+      (λ m. let q : getD a k 0 ≤ getD b k 0 = ltb-false _ _ m in level (omega arith)))
+
+  pub take-four : four a i ≡ four b i → take (i + 4) a ≡ take (i + 4) b
+  take-four e =
+      let first : getD a i 0 ≡ getD b i 0 = omega (arith, oa i, oa (i + 1), oa (i + 2), oa (i + 3), ob i, ob (i + 1), ob (i + 2), ob (i + 3)) in
+      let second : getD a (i + 1) 0 ≡ getD b (i + 1) 0 = omega (arith, oa i, oa (i + 1), oa (i + 2), oa (i + 3), ob i, ob (i + 1), ob (i + 2), ob (i + 3)) in
+      let third : getD a (i + 2) 0 ≡ getD b (i + 2) 0 = omega (arith, oa i, oa (i + 1), oa (i + 2), oa (i + 3), ob i, ob (i + 1), ob (i + 2), ob (i + 3)) in
+      let fourth : getD a (i + 3) 0 ≡ getD b (i + 3) 0 = omega (arith, oa i, oa (i + 1), oa (i + 2), oa (i + 3), ob i, ob (i + 1), ob (i + 2), ob (i + 3)) in
+      take-run a b i 4 ha hb t (rw (add-zero, eq-eqb _ _ first, eq-eqb _ _ second, eq-eqb _ _ third, eq-eqb _ _ fourth))
+
+  pub before-four : (four a i ≡ four b i → ⊥) → before a b ≡ ltb (four a i) (four b i)
+  before-four n =
+      next i (omega arith) (omega arith) t (λ p. omega (arith, oa i, oa (i + 1), oa (i + 2), oa (i + 3), ob i, ob (i + 1), ob (i + 2), ob (i + 3))) (λ p. omega (arith, oa i, oa (i + 1), oa (i + 2), oa (i + 3), ob i, ob (i + 1), ob (i + 2), ob (i + 3)))
+      (λ e. let t1 = take-next a b i (omega arith) (omega arith) t e in
+      next (i + 1) (omega arith) (omega arith) t1 (λ p. omega (arith, oa i, oa (i + 1), oa (i + 2), oa (i + 3), ob i, ob (i + 1), ob (i + 2), ob (i + 3))) (λ p. omega (arith, oa i, oa (i + 1), oa (i + 2), oa (i + 3), ob i, ob (i + 1), ob (i + 2), ob (i + 3)))
+      (λ f. let t2 : take (i + 2) a ≡ take (i + 2) b = rw (add-assoc) at (take-next a b (i + 1) (omega arith) (omega arith) t1 f) in
+      next (i + 2) (omega arith) (omega arith) t2 (λ p. omega (arith, oa i, oa (i + 1), oa (i + 2), oa (i + 3), ob i, ob (i + 1), ob (i + 2), ob (i + 3))) (λ p. omega (arith, oa i, oa (i + 1), oa (i + 2), oa (i + 3), ob i, ob (i + 1), ob (i + 2), ob (i + 3)))
+      (λ g. let t3 : take (i + 3) a ≡ take (i + 3) b = rw (add-assoc) at (take-next a b (i + 2) (omega arith) (omega arith) t2 g) in
+      next (i + 3) (omega arith) (omega arith) t3 (λ p. omega (arith, oa i, oa (i + 1), oa (i + 2), oa (i + 3), ob i, ob (i + 1), ob (i + 2), ob (i + 3))) (λ p. omega (arith, oa i, oa (i + 1), oa (i + 2), oa (i + 3), ob i, ob (i + 1), ob (i + 2), ob (i + 3)))
+      (λ h. absurd (n (omega (arith, oa i, oa (i + 1), oa (i + 2), oa (i + 3), ob i, ob (i + 1), ob (i + 2), ob (i + 3))))))))
 
 -- what each answer says
 abbrev answer : Bool → Bool → Order

@@ -1,9 +1,9 @@
 // Octets of lent slices: compared, many at a time.
 ghost use mathlib.Core.Path.{_≡_};
-ghost use Prim.Native.Nat.{_+_, _≤_};
+ghost use Prim.Native.Nat.{_+_, _≤_, _<_, min};
 ghost use lib.ListN.{length, take};
-ghost use Rattle.lists.specs.Order.{same};
-ghost use Rattle.octets.specs.Order.{order, sameEight};
+ghost use Rattle.lists.specs.Order.{same, before};
+ghost use Rattle.octets.specs.Order.{order, sameEight, four};
 
 // How one list of octets stands to another.
 pub enum Order {
@@ -47,13 +47,15 @@ fn skip_long(a: &[u8], b: &[u8], n: usize) -> usize
     i
 }
 
-// The same, then 8 a turn.
-pub fn skip(a: &[u8], b: &[u8], n: usize) -> usize
+// The same where the first `from` are known to be the same: 8 a turn.
+pub fn skip(a: &[u8], b: &[u8], from: usize, n: usize) -> usize
+    requires { ⌜ from ≤ n ⌝ }
     requires { ⌜ n ≤ length (now a) ⌝ }
     requires { ⌜ n ≤ length (now b) ⌝ }
+    requires { ⌜ take from (now a) ≡ take from (now b) ⌝ }
     ensures { λ r. ⌜ (r ≤ n) × (take r (now (a .entry)) ≡ take r (now (b .entry))) ⌝ }
 {
-    let mut i = skip_long(a, b, n);
+    let mut i = from;
     while 8 <= n - i {
         if !same_eight(a, b, i) {
             return i;
@@ -63,6 +65,7 @@ pub fn skip(a: &[u8], b: &[u8], n: usize) -> usize
     i
 }
 
+// Names of a table mostly differ at their end, so the last octet is looked at first.
 pub fn are_same(a: &[u8], b: &[u8]) -> bool
     ensures { λ r. ⌜ r ≡ same (now (a .entry)) (now (b .entry)) ⌝ }
 {
@@ -70,7 +73,14 @@ pub fn are_same(a: &[u8], b: &[u8]) -> bool
     if n != b.len() {
         return false;
     }
-    let mut i = skip(a, b, n);
+    if n == 0 {
+        return true;
+    }
+    let last = n - 1;
+    if a[last] != b[last] {
+        return false;
+    }
+    let mut i = skip(a, b, 0, n);
     while i < n {
         if a[i] != b[i] {
             return false;
@@ -80,8 +90,8 @@ pub fn are_same(a: &[u8], b: &[u8]) -> bool
     true
 }
 
-fn shorter(a: usize, b: usize) -> usize
-    ensures { λ r. ⌜ (r ≤ a) × (r ≤ b) ⌝ }
+pub fn shorter(a: usize, b: usize) -> usize
+    ensures { λ r. ⌜ r ≡ min a b ⌝ }
 {
     if a < b {
         return a;
@@ -89,11 +99,50 @@ fn shorter(a: usize, b: usize) -> usize
     b
 }
 
+fn wide(x: u8) -> usize
+    ensures { λ r. ⌜ (r ≡ x) × (r < 256) ⌝ }
+{
+    x as usize
+}
+
+// The four octets at `i` as one number, big-endian: such numbers stand to each other as the octets do.
+fn four_at(a: &[u8], i: usize) -> usize
+    requires { ⌜ i + 4 ≤ length (now a) ⌝ }
+    ensures { λ r. ⌜ r ≡ four (now (a .entry)) i ⌝ }
+{
+    wide(a[i]) * 16777216 + wide(a[i + 1]) * 65536 + wide(a[i + 2]) * 256 + wide(a[i + 3])
+}
+
+// Whether `a` stands before `b`. Called at one place, so that the compiler puts it there whole.
+pub fn ascends(a: &[u8], b: &[u8]) -> bool
+    ensures { λ r. ⌜ r ≡ before (now (a .entry)) (now (b .entry)) ⌝ }
+{
+    let n = shorter(a.len(), b.len());
+    let mut i = skip(a, b, skip_long(a, b, n), n);
+    if 4 <= n - i {
+        let x = four_at(a, i);
+        let y = four_at(b, i);
+        if x != y {
+            return x < y;
+        }
+        i += 4;
+    }
+    while i < n {
+        let x = a[i];
+        let y = b[i];
+        if x != y {
+            return x < y;
+        }
+        i += 1;
+    }
+    a.len() < b.len()
+}
+
 pub fn compare(a: &[u8], b: &[u8]) -> Order
     ensures { λ r. ⌜ r ≡ order (now (a .entry)) (now (b .entry)) ⌝ }
 {
     let n = shorter(a.len(), b.len());
-    let mut i = skip(a, b, n);
+    let mut i = skip(a, b, 0, n);
     while i < a.len() {
         if b.len() <= i {
             return Order::Above;

@@ -5,7 +5,7 @@
 use mathlib.Core.Path.{_≡_, refl, sym, ap, ap₂, _∙_}
 use mathlib.Core.Bool.{true, false, not, _&&_, _||_}
 use mathlib.Core.List.{List, [], _∷_, _++_}
-use Prim.Native.Nat.{ℕ, zero, suc, _+_, _*_, _/_, _≤_, _<_}
+use Prim.Native.Nat.{ℕ, zero, suc, _+_, _*_, _/_, _%_, _≤_, _<_}
 use native.Mathlib.Numerals.{add-one}
 use native.Mathlib.Omega.{arith}
 use lib.Dec.{eqb}
@@ -113,6 +113,13 @@ module _ (mask s v : List ℕ) (i k : ℕ) where
     unfolding agrees
     agrees-differ e b = rw (identifier-next k s hs, identifier-next k v hv, e, b)
 
+    agrees-rest : agrees mask (i + 1) (identifier (drop (k + 4) s)) (identifier (drop (k + 4) v)) ≡ false
+        → agrees mask i (identifier (drop k s)) (identifier (drop k v)) ≡ false
+    unfolding agrees
+    agrees-rest e =
+        rw (identifier-next k s hs, identifier-next k v hv)
+        (and-false-right (not (maskBit mask i) || eqb (number word (drop k s)) (number word (drop k v))) (rw add-one at e))
+
 -- numbers in front whose bytes are the same
 module _ (mask s v : List ℕ) where
   number-same : (k : ℕ) → ((j : ℕ) → j < k + 4 → getD s j 0 ≡ getD v j 0) → eqb (number word (drop k s)) (number word (drop k v)) ≡ true
@@ -134,3 +141,17 @@ module _ (mask s v : List ℕ) where
   agrees-skip r hs hv t =
       agrees-front (r / 4) (omega arith) (omega arith)
       (λ j l. let b : j < r = omega arith in sym (getD-take r s j 0 b) ∙ ap (λ u. getD u j 0) t ∙ getD-take r v j 0 b)
+
+  -- a part that disagrees decides, wherever it stands
+  agrees-from : (i : ℕ) → 4 * i ≤ length s → 4 * i ≤ length v → agrees mask i (identifier (drop (4 * i) s)) (identifier (drop (4 * i) v)) ≡ false
+      → agrees mask 0 (identifier s) (identifier v) ≡ false
+  agrees-from zero hs hv h = h
+  agrees-from (suc i) hs hv h =
+      let e : 4 * suc i ≡ 4 * i + 4 = omega arith in
+      agrees-from i (omega arith) (omega arith) (agrees-rest mask s v i (4 * i) (omega arith) (omega arith) (rw (← e, add-one) h))
+
+  pub agrees-part : (k : ℕ) → k % 4 ≡ 0 → k + 4 ≤ length s → k + 4 ≤ length v → eqb (number word (drop k s)) (number word (drop k v)) ≡ false
+      → maskBit mask (k / 4) ≡ true → agrees mask 0 (identifier s) (identifier v) ≡ false
+  agrees-part k r hs hv d b =
+      let e : 4 * (k / 4) ≡ k = omega arith in
+      agrees-from (k / 4) (omega arith) (omega arith) (rw e (agrees-differ mask s v (k / 4) k hs hv d b))

@@ -171,7 +171,8 @@ fn same_word(a: &[u8], b: &[u8], i: usize) -> bool
     (a[i] == b[i]) & (a[i + 1] == b[i + 1]) & (a[i + 2] == b[i + 2]) & (a[i + 3] == b[i + 3])
 }
 
-// Whether the variable agrees with the subtree wherever the mask bit is 1. Parts in front that are the same need no look at the mask.
+// Whether the variable agrees with the subtree wherever the mask bit is 1. Subtrees of a view mostly differ at their end, so the last part
+// is looked at first; parts in front that are the same need no look at the mask.
 fn is_below(subtree: &[u8], mask: &[u8], variable: &[u8]) -> bool
     requires { ⌜ length (now subtree) % 4 ≡ 0 ⌝ }
     ensures { λ r. ⌜ r ≡ agrees (now (mask .entry)) 0 (identifier (now (subtree .entry))) (identifier (now (variable .entry))) ⌝ }
@@ -180,7 +181,15 @@ fn is_below(subtree: &[u8], mask: &[u8], variable: &[u8]) -> bool
     if variable.len() < n {
         return false;
     }
-    let mut i = octets::skip(subtree, variable, n) / 4;
+    if 4 <= n {
+        let last = n - 4;
+        if !same_word(subtree, variable, last) {
+            if mask_bit(mask, last / 4) {
+                return false;
+            }
+        }
+    }
+    let mut i = octets::skip(subtree, variable, 0, n) / 4;
     let mut k = 4 * i;
     while k < n {
         if !same_word(subtree, variable, k) {

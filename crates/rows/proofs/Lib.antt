@@ -2,6 +2,7 @@ pub mod Steps
 pub mod Sound
 pub mod Appends
 pub mod Judging
+pub mod Legal
 pub mod Places
 pub mod Inverse
 pub mod Typed

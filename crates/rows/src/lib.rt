@@ -4,9 +4,10 @@ ghost use mathlib.Core.Path.{_≡_};
 ghost use Prim.Native.Nat.{_+_, _*_, _≤_, _<_};
 ghost use lib.ListN.{length, drop, getD};
 ghost use mathlib.Core.List.{[]};
-ghost use Rattle.rows.specs.Fields.{octet, word, number, faults};
+ghost use Rattle.rows.specs.Fields.{octet, word, number, within, faults};
+ghost use Rattle.rows.specs.declared.Table.the-variants.{Context, Mapping, Access, View};
 ghost use Rattle.rows.specs.Rows.{contextKey, mappingKey, mappingRest, accessKey, accessRest, viewKey, viewRest, keyFields, restFields};
-ghost use Rattle.rows.specs.Judging.{reached, sequenceStep, integerStep, fieldsStep, keyStep, rowStep};
+ghost use Rattle.rows.specs.Judging.{reached, sequenceStep, integerStep, fieldsStep, keyStep, rowStep, KeyEnd, Fits, endsWell};
 
 // The tables, in document 01's order.
 pub enum Table {
@@ -262,4 +263,159 @@ pub fn judge(t: Table, row: &[u8]) -> Step
         return rest;
     };
     whole(row, b, a)
+}
+
+// A legal row is told by few branches and tests that are all made; 0 where it is not told, and `judge` says what is wrong, if anything is.
+
+fn within(lo: usize, hi: usize, x: usize) -> bool
+    ensures { λ r. ⌜ r ≡ within lo hi x ⌝ }
+{
+    (lo <= x) & (x <= hi)
+}
+
+// A storage and a status as the last bytes.
+fn ends_well(row: &[u8]) -> bool
+    requires { ⌜ 2 ≤ length (now row) ⌝ }
+    ensures { λ r. ⌜ r ≡ endsWell (now (row .entry)) ⌝ }
+{
+    let n = row.len();
+    let storage = wide(row[n - 2]);
+    let status = wide(row[n - 1]);
+    within(2, 5, storage) & within(1, 2, status)
+}
+
+fn context_end(row: &[u8]) -> usize
+    ensures { λ r. ⌜ KeyEnd Context (now (row .entry)) r ⌝ }
+{
+    let n = row.len();
+    if n < 1 {
+        return 0;
+    }
+    let name = wide(row[0]);
+    if !((1 + name == n) & within(0, 32, name)) {
+        return 0;
+    }
+    n
+}
+
+fn mapping_end(row: &[u8]) -> usize
+    ensures { λ r. ⌜ KeyEnd Mapping (now (row .entry)) r ⌝ }
+{
+    let n = row.len();
+    if n < 10 {
+        return 0;
+    }
+    let model = word_at(row, 0);
+    let name = wide(row[4]);
+    let a = 5 + name;
+    if n < a + 4 {
+        return 0;
+    }
+    let group = wide(row[a]);
+    if !((a + 1 + group + 2 == n)
+        & within(1, 2147483647, model)
+        & within(1, 32, name)
+        & within(1, 32, group)
+        & ends_well(row)) {
+        return 0;
+    }
+    a
+}
+
+// What follows the key of an access row: the match, three view names, a storage and a status.
+fn access_rest_fits(row: &[u8], key: usize) -> bool
+    requires { ⌜ key + 6 ≤ length (now row) ⌝ }
+    ensures { λ r. ⌜ Fits accessRest (now (row .entry)) key r ⌝ }
+{
+    let n = row.len();
+    let exact = wide(row[key]);
+    let read = wide(row[key + 1]);
+    let a = key + 2 + read;
+    if n < a + 4 {
+        return false;
+    }
+    let write = wide(row[a]);
+    let b = a + 1 + write;
+    if n < b + 3 {
+        return false;
+    }
+    let notify = wide(row[b]);
+    (b + 1 + notify + 2 == n)
+        & within(1, 2, exact)
+        & within(0, 32, read)
+        & within(0, 32, write)
+        & within(0, 32, notify)
+        & ends_well(row)
+}
+
+fn access_end(row: &[u8]) -> usize
+    ensures { λ r. ⌜ KeyEnd Access (now (row .entry)) r ⌝ }
+{
+    let n = row.len();
+    if n < 14 {
+        return 0;
+    }
+    let group = wide(row[0]);
+    let a = 1 + group;
+    if n < a + 12 {
+        return 0;
+    }
+    let prefix = wide(row[a]);
+    let b = a + 1 + prefix;
+    if n < b + 11 {
+        return 0;
+    }
+    let model = word_at(row, b);
+    let level = wide(row[b + 4]);
+    let key = b + 5;
+    if !(within(1, 32, group)
+        & within(0, 32, prefix)
+        & within(0, 2147483647, model)
+        & within(1, 3, level)
+        & access_rest_fits(row, key)) {
+        return 0;
+    }
+    key
+}
+
+fn view_end(row: &[u8]) -> usize
+    ensures { λ r. ⌜ KeyEnd View (now (row .entry)) r ⌝ }
+{
+    let n = row.len();
+    if n < 11 {
+        return 0;
+    }
+    let name = wide(row[0]);
+    let a = 1 + name;
+    if n < a + 9 {
+        return 0;
+    }
+    let parts = wide(row[a]);
+    let b = a + 1 + parts * 4;
+    if n < b + 4 {
+        return 0;
+    }
+    let mask = wide(row[b]);
+    let kind = wide(row[n - 3]);
+    if !((b + 1 + mask + 3 == n)
+        & within(1, 32, name)
+        & within(1, 64, parts)
+        & within(0, 16, mask)
+        & within(1, 2, kind)
+        & ends_well(row)) {
+        return 0;
+    }
+    b
+}
+
+// Where the key of a legal row ends, or 0.
+pub fn key_end(t: Table, row: &[u8]) -> usize
+    ensures { λ r. ⌜ KeyEnd t (now (row .entry)) r ⌝ }
+{
+    match t {
+        Table::Context => context_end(row),
+        Table::Mapping => mapping_end(row),
+        Table::Access => access_end(row),
+        Table::View => view_end(row),
+    }
 }

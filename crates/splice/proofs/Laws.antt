@@ -1,7 +1,7 @@
--- Laws of `moved` and `spliced`. To move elements in front of those that are moved on, or behind those that are moved back, is to move more,
--- since the places that are read still have what stood there; one store moves one element. `new` goes where the elements moved away from,
--- which makes the list spliced. For the callers: a spliced list has its old length and its old front, and in a list of parts `new` is in one
--- part's place. Assumes nothing.
+-- Laws of `moved`, `spliced` and `splicedTwo`. To move elements in front of those that are moved on, or behind those that are moved back, is
+-- to move more, since the places that are read still have what stood there; one store moves one element. `new` goes where the elements moved
+-- away from, which makes the list spliced. Of two parts, what stands between them and what stands behind them can be moved in one order at
+-- least, and `new` goes between. For the callers: in a list of parts `head` and `new` are in two parts' places. Assumes nothing.
 use mathlib.Core.Path.{_≡_, sym, ap, ap₂, _∙_}
 use mathlib.Core.List.{List, [], _++_, append-assoc, append-nil}
 use Prim.Native.Nat.{ℕ, _+_, _-_, _≤_, _<_}
@@ -9,8 +9,8 @@ use native.Mathlib.Nat.{add-zero}
 use native.Mathlib.Numerals.{add-one}
 use native.Mathlib.Omega.{arith}
 use lib.ListN.{length, take, drop, getD, set, drop-of-length-le, length-append, length-drop, take-append-drop}
-use lib.Seq.{drop-append-le, drop-at, drop-cons, drop-drop, drop-paste, length-take-le, paste, set-split, take-add, take-append-le, take-at, take-length, take-paste, take-take}
-use Rattle.splice.specs.Splice.{moved, spliced}
+use lib.Seq.{drop-append-le, drop-at, drop-cons, drop-drop, drop-paste, length-take-le, paste, set-split, take-add, take-append-le, take-at, take-length, take-paste}
+use Rattle.splice.specs.Splice.{moved, spliced, splicedTwo}
 
 -- nothing is moved yet
 pub moved-none : (w : List ℕ) (from to : ℕ) → w ≡ moved w from from to
@@ -34,6 +34,19 @@ part-front k i a b h =
     let l : length (drop i a) ≡ length a - i = length-drop i a in
     rw (drop-append-le i a b (omega arith)) (take-append-le k (drop i a) b (omega arith))
 
+-- whatever comes behind a list's front, a part within the front is the list's
+front-same : (w back : List ℕ) (n i k : ℕ) → i + k ≤ n → n ≤ length w → take k (drop i (take n w ++ back)) ≡ take k (drop i w)
+front-same w back n i k h l =
+    let len : length (take n w) ≡ n = length-take-le n w l in
+    part-front k i (take n w) back (omega arith)
+    ∙ sym (part-front k i (take n w) (drop n w) (omega arith)) ∙ ap (λ (u : List ℕ). take k (drop i u)) (take-append-drop n w)
+
+-- lists that are the same from n on are the same from any place behind
+drop-past : (u v : List ℕ) (n i : ℕ) → drop n u ≡ drop n v → n ≤ i → drop i u ≡ drop i v
+drop-past u v n i e h =
+    let k : i ≡ n + (i - n) = omega arith in
+    rw (k, ← drop-drop (i - n) n u, ← drop-drop (i - n) n v, e)
+
 -- k elements more in front of those that are moved on
 module _ (w : List ℕ) (i k end to : ℕ) (h : i + k ≤ end) (l : i ≤ to) (r : to + (end - i) ≤ length w) where
   front-moved : moved (moved w (i + k) end (to + k)) i (i + k) to ≡ moved w i end to
@@ -42,10 +55,8 @@ module _ (w : List ℕ) (i k end to : ℕ) (h : i + k ≤ end) (l : i ≤ to) (r
       let a : List ℕ = take (to + k) w in
       let back : List ℕ = take n (drop (i + k) w) ++ drop (to + k + n) w in
       let len : length a ≡ to + k = length-take-le (to + k) w (omega arith) in
-      let front : take to (a ++ back) ≡ take to w = take-append-le to a back (omega arith) ∙ take-take to (to + k) w (omega arith) in
-      let was : take k (drop i a) ≡ take k (drop i w) =
-      sym (part-front k i a (drop (to + k) w) (omega arith)) ∙ ap (λ (u : List ℕ). take k (drop i u)) (take-append-drop (to + k) w) in
-      let part : take k (drop i (a ++ back)) ≡ take k (drop i w) = part-front k i a back (omega arith) ∙ was in
+      let front : take to (a ++ back) ≡ take to w = front-same w back (to + k) 0 to (omega arith) (omega arith) in
+      let part : take k (drop i (a ++ back)) ≡ take k (drop i w) = front-same w back (to + k) i k (omega arith) (omega arith) in
       let behind : drop (to + k) (a ++ back) ≡ back = drop-at a back (to + k) len in
       let p : end - i ≡ k + n = omega arith in
       let both : take (end - i) (drop i w) ≡ take k (drop i w) ++ take n (drop (i + k) w) =
@@ -123,37 +134,92 @@ module _ (w : List ℕ) (at gone end : ℕ) (new : List ℕ) (h : at + gone ≤ 
       let e : at + n + (end - (at + gone)) ≡ end - gone + n = omega arith in
       let back : List ℕ = take (end - (at + gone)) (drop (at + gone) w) ++ drop (at + n + (end - (at + gone))) w in
       let len : length (take (at + n) w) ≡ at + n = length-take-le (at + n) w (omega arith) in
-      let front : take at (take (at + n) w ++ back) ≡ take at w = take-append-le at (take (at + n) w) back (omega arith) ∙ take-take at (at + n) w (omega arith) in
+      let front : take at (take (at + n) w ++ back) ≡ take at w = front-same w back (at + n) 0 at (omega arith) (omega arith) in
       let behind : drop (at + n) (take (at + n) w ++ back) ≡ back = drop-at (take (at + n) w) back (at + n) len in
       rw (front, take-length new, behind, e, append-assoc)
 
-  -- the length stays
-  pub length-spliced : length (spliced w at gone end new) ≡ length w
-  length-spliced =
+  -- what stands up to the new end, and what lies past it
+  abbrev ends : ℕ
+  ends = end - gone + length new
+
+  abbrev kept : List ℕ
+  kept = take at w ++ (new ++ take (end - (at + gone)) (drop (at + gone) w))
+
+  kept-ends : length kept ≡ ends
+  kept-ends =
       let a : length (take at w) ≡ at = length-take-le at w (omega arith) in
       let b : length (drop (at + gone) w) ≡ length w - (at + gone) = length-drop (at + gone) w in
       let c : length (take (end - (at + gone)) (drop (at + gone) w)) ≡ end - (at + gone) = length-take-le (end - (at + gone)) (drop (at + gone) w) (omega arith) in
-      let d : length (drop (end - gone + length new) w) ≡ length w - (end - gone + length new) = length-drop (end - gone + length new) w in
       simp length-append (omega arith)
 
--- what stands in front stays as it was
-pub take-spliced : (w : List ℕ) (at gone end : ℕ) (new : List ℕ) (k : ℕ) → k ≤ at → at ≤ length w
-    → take k (spliced w at gone end new) ≡ take k w
-take-spliced w at gone end new k h l =
-    let len : length (take at w) ≡ at = length-take-le at w l in
-    let back : List ℕ = new ++ (take (end - (at + gone)) (drop (at + gone) w) ++ drop (end - gone + length new) w) in
-    take-append-le k (take at w) back (omega arith) ∙ take-take k at w h
+  spliced-kept : spliced w at gone end new ≡ kept ++ drop ends w
+  spliced-kept = simp append-assoc
 
--- a list of parts: `new` stands for G, Y follows it, and behind Y is what lay there
-module _ (w : List ℕ) (at gone end : ℕ) (new X G Y R : List ℕ)
-    (e : w ≡ X ++ (G ++ (Y ++ R))) (x : length X ≡ at) (g : length G ≡ gone) (y : at + gone + length Y ≡ end) where
-  pub spliced-append : spliced w at gone end new ≡ X ++ (new ++ (Y ++ drop (end - gone + length new) w))
-  spliced-append =
-      let n : end - (at + gone) ≡ length Y = omega arith in
-      let front : take at w ≡ X = rw e (take-at X (G ++ (Y ++ R)) at x) in
-      let len : length (X ++ G) ≡ at + gone = simp length-append (omega arith) in
-      let behind : drop (at + gone) w ≡ Y ++ R = rw (e, ← append-assoc X G) (drop-at (X ++ G) (Y ++ R) (at + gone) len) in
-      rw (front, behind, n, take-at Y R (length Y))
+  take-spliced : take ends (spliced w at gone end new) ≡ kept
+  take-spliced = ap (take ends) spliced-kept ∙ take-at kept (drop ends w) ends kept-ends
 
-  pub spliced-app : (tail : List ℕ) × (spliced w at gone end new ≡ X ++ (new ++ (Y ++ tail)))
-  spliced-app = (drop (end - gone + length new) w, spliced-append)
+  drop-spliced : (i : ℕ) → ends ≤ i → drop i (spliced w at gone end new) ≡ drop i w
+  drop-spliced i k = drop-past (spliced w at gone end new) w ends i (ap (drop ends) spliced-kept ∙ drop-at kept (drop ends w) ends kept-ends) k
+
+-- within the bounds that `splice_two` requires
+module _ (w : List ℕ) (place had : ℕ) (head : List ℕ) (at gone end : ℕ) (new : List ℕ)
+    (h : place + had ≤ at) (g : at + gone ≤ end) (l : end ≤ length w) (r : end - gone - had + length head + length new ≤ length w) where
+  abbrev to : ℕ
+  to = at - had + length head
+
+  abbrev next : ℕ
+  next = to + length new
+
+  abbrev ahead : List ℕ
+  ahead = take place w ++ (head ++ take (at - (place + had)) (drop (place + had) w))
+
+  abbrev behind : List ℕ
+  behind = take (end - (at + gone)) (drop (at + gone) w) ++ drop (end - gone - had + length head + length new) w
+
+  -- `new` goes between what stands in front of it and what stands behind
+  paste-between : (v : List ℕ) → take to v ≡ ahead → drop next v ≡ behind → paste v to new (length new) ≡ splicedTwo w place had head at gone end new
+  paste-between v a b = rw (a, take-length new, b) (simp append-assoc)
+
+  past : next + (end - (at + gone)) ≡ end - gone - had + length head + length new
+  past = omega arith
+
+  -- what stands behind is moved first: it goes to no place in front of `at`
+  pub behind-first : (u v : List ℕ) → at ≤ to → length u ≡ length w → u ≡ moved w (at + gone) end next → v ≡ spliced u place had at head
+      → paste v to new (length new) ≡ splicedTwo w place had head at gone end new
+  behind-first u v k n e f =
+      let back : List ℕ = take (end - (at + gone)) (drop (at + gone) w) ++ drop (next + (end - (at + gone))) w in
+      let same : (i j : ℕ) → i + j ≤ next → take j (drop i u) ≡ take j (drop i w) = λ i j o. rw e (front-same w back next i j o (omega arith)) in
+      let a : take to v ≡ ahead =
+      ap (take to) f ∙ take-spliced u place had at head h (omega arith) (omega arith) ∙ rw (same 0 place (omega arith), same (place + had) (at - (place + had)) (omega arith)) in
+      let b : drop next v ≡ behind =
+      ap (drop next) f ∙ drop-spliced u place had at head h (omega arith) (omega arith) next (omega arith)
+      ∙ ap (drop next) e ∙ drop-at (take next w) back next (length-take-le next w (omega arith)) ∙ rw past in
+      paste-between v a b
+
+  -- what stands between is moved first: it goes to no place behind `at`
+  pub between-first : (u v : List ℕ) → to ≤ at → length u ≡ length w → u ≡ spliced w place had at head → v ≡ moved u (at + gone) end next
+      → paste v to new (length new) ≡ splicedTwo w place had head at gone end new
+  between-first u v k n e f =
+      let back : List ℕ = take (end - (at + gone)) (drop (at + gone) u) ++ drop (next + (end - (at + gone))) u in
+      let same : (i : ℕ) → to ≤ i → drop i u ≡ drop i w = λ i o. ap (drop i) e ∙ drop-spliced w place had at head h (omega arith) (omega arith) i o in
+      let a : take to v ≡ ahead =
+      ap (take to) f ∙ front-same u back next 0 to (omega arith) (omega arith) ∙ ap (take to) e ∙ take-spliced w place had at head h (omega arith) (omega arith) in
+      let b : drop next v ≡ behind =
+      ap (drop next) f ∙ drop-at (take next u) back next (length-take-le next u (omega arith))
+      ∙ rw (same (at + gone) (omega arith), past, same (end - gone - had + length head + length new) (omega arith)) in
+      paste-between v a b
+
+-- a list of parts: `head` stands for H and `new` for G, M and Y follow them, and behind Y is what lay there
+module _ (w : List ℕ) (place had : ℕ) (head : List ℕ) (at gone end : ℕ) (new A H M G Y R : List ℕ)
+    (e : w ≡ A ++ (H ++ (M ++ (G ++ (Y ++ R))))) (a : length A ≡ place) (b : length H ≡ had) (m : place + had + length M ≡ at) (g : length G ≡ gone) (y : at + gone + length Y ≡ end) where
+  pub two-app : (tail : List ℕ) × (splicedTwo w place had head at gone end new ≡ A ++ (head ++ (M ++ (new ++ (Y ++ tail)))))
+  two-app =
+      let n : at - (place + had) ≡ length M = omega arith in
+      let k : end - (at + gone) ≡ length Y = omega arith in
+      let front : take place w ≡ A = rw e (take-at A (H ++ (M ++ (G ++ (Y ++ R)))) place a) in
+      let len : length (A ++ H) ≡ place + had = simp length-append (omega arith) in
+      let between : drop (place + had) w ≡ M ++ (G ++ (Y ++ R)) = rw (e, ← append-assoc A H) (drop-at (A ++ H) (M ++ (G ++ (Y ++ R))) (place + had) len) in
+      let all : length (A ++ (H ++ (M ++ G))) ≡ at + gone = simp length-append (omega arith) in
+      let parts : w ≡ (A ++ (H ++ (M ++ G))) ++ (Y ++ R) = e ∙ simp append-assoc in
+      let behind : drop (at + gone) w ≡ Y ++ R = rw parts (drop-at (A ++ (H ++ (M ++ G))) (Y ++ R) (at + gone) all) in
+      (drop (end - gone - had + length head + length new) w, rw (front, between, behind, n, k, take-at M (G ++ (Y ++ R)) (length M), take-at Y R (length Y)))

@@ -1,9 +1,9 @@
-// A part of a lent slice replaced where it lies: what stands behind it moves once, and nothing else changes.
+// A part of a lent slice replaced where it lies, or two parts at once: what stands behind moves once, and nothing else changes.
 ghost use mathlib.Core.Path.{_≡_};
 ghost use Prim.Native.Nat.{_+_, _-_, _≤_};
 ghost use lib.ListN.{length};
 ghost use lib.Seq.{paste};
-ghost use Rattle.splice.specs.Splice.{spliced, moved};
+ghost use Rattle.splice.specs.Splice.{spliced, splicedTwo, moved};
 
 // Copies `new` into w from `at` on.
 pub fn copy_in(w: &mut [u8], at: usize, new: &[u8])
@@ -80,17 +80,50 @@ fn move_down(w: &mut [u8], from: usize, end: usize, by: usize)
     }
 }
 
+// Moves the octets from `from` up to `end` so that they stand from `to` on.
+fn shift(w: &mut [u8], from: usize, end: usize, to: usize)
+    requires { ⌜ (from ≤ end) × (end ≤ length (now w)) × (to + (end - from) ≤ length (now w)) ⌝ }
+    ensures { λ _. ⌜ now (w .exit) ≡ moved (now (w .entry)) from end to ⌝ }
+{
+    if from < to {
+        move_up(w, from, end, to - from);
+    } else if to < from {
+        move_down(w, from, end, from - to);
+    }
+}
+
 // The `gone` octets at `at` give way to `new`, and what stands behind them up to `end` follows.
 pub fn splice(w: &mut [u8], at: usize, gone: usize, end: usize, new: &[u8])
     requires { ⌜ (at + gone ≤ end) × (end ≤ length (now w)) × (end - gone + length (now new) ≤ length (now w)) ⌝ }
     ensures { λ _. ⌜ now (w .exit) ≡ spliced (now (w .entry)) at gone end (now (new .entry)) ⌝ }
 {
-    let n = new.len();
-    let from = at + gone;
-    if gone < n {
-        move_up(w, from, end, n - gone);
-    } else if n < gone {
-        move_down(w, from, end, gone - n);
-    }
+    shift(w, at + gone, end, at + new.len());
     copy_in(w, at, new);
+}
+
+// Two parts give way at once: the `had` octets at `place` to `head`, and the `gone` octets at `at`, behind them, to `new`. What stands between
+// them and what stands behind, up to `end`, each moves once, that first which the other would be stored over.
+pub fn splice_two(
+    w: &mut [u8],
+    place: usize,
+    had: usize,
+    head: &[u8],
+    at: usize,
+    gone: usize,
+    end: usize,
+    new: &[u8],
+)
+    requires { ⌜ (place + had ≤ at) × (at + gone ≤ end) × (end ≤ length (now w)) × (end - gone - had + length (now head) + length (now new) ≤ length (now w)) ⌝ }
+    ensures { λ _. ⌜ now (w .exit) ≡ splicedTwo (now (w .entry)) place had (now (head .entry)) at gone end (now (new .entry)) ⌝ }
+{
+    let to = at - had + head.len();
+    let next = to + new.len();
+    if at <= to {
+        shift(w, at + gone, end, next);
+        splice(w, place, had, at, head);
+    } else {
+        splice(w, place, had, at, head);
+        shift(w, at + gone, end, next);
+    }
+    copy_in(w, to, new);
 }

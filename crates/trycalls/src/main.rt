@@ -4,19 +4,30 @@ use libc::STDIN_FILENO;
 use libc::STDOUT_FILENO;
 ghost use mathlib.Core.Path.{_≡_};
 ghost use Prim.Native.Nat.{_+_, _≤_, _<_};
+ghost use lib.IntN.{pos};
 ghost use lib.ListN.{length};
+ghost use lib.Signed.{_<ℤ_};
+ghost use Rattle.image.specs.Store.{room as largest};
 
-// The octets of the file, as far as there is room: none where it is missing.
-fn load(room: &mut [u8]) -> usize
+// The octets of an open file, as far as there is room. One that does not open is missing, and has none.
+fn contents(fd: i32, room: &mut [u8]) -> usize
     ensures { λ r. ⌜ r ≤ length (now (room .exit)) ⌝ }
+    ensures { λ r. ⌜ (fd <ℤ pos 0 → r ≡ 0) ⌝ }
 {
-    let fd = os::open_read(b"tables.bin");
     if fd < 0 {
         return 0;
     }
     let n = io::read_full(fd, room);
     libc::close(fd);
     n
+}
+
+// The octets of the file: of one longer than the largest image, as many as that has and one more.
+fn load(room: &mut [u8]) -> usize
+    requires { ⌜ length (now room) ≡ largest + 1 ⌝ }
+    ensures { λ r. ⌜ r ≤ length (now (room .exit)) ⌝ }
+{
+    contents(os::open_read(b"tables.bin"), room)
 }
 
 // A line's number, its answer and a newline.

@@ -7,16 +7,21 @@ use libc::STDOUT_FILENO;
 use lines::Progress;
 ghost use mathlib.Core.Path.{_≡_};
 ghost use Prim.Native.Nat.{_+_, _≤_, _<_};
+ghost use lib.IntN.{pos};
 ghost use lib.ListN.{length, take};
+ghost use lib.Signed.{_<ℤ_};
 ghost use Rattle.io.specs.Counts.{Counts};
+ghost use Rattle.answers.specs.Numbers.{faultNumber};
 ghost use Rattle.image.specs.Image.{SoundLayout};
+ghost use Rattle.image.specs.Store.{room as largest};
 ghost use Rattle.words.specs.Words.{run};
+ghost use Rattle.lines.specs.Lines.{told};
 
-// The octets of the file, as far as there is room; a missing file has none.
-fn load(room: &mut [u8]) -> usize
+// The octets of an open file, as far as there is room. One that does not open is missing, and has none.
+fn contents(fd: i32, room: &mut [u8]) -> usize
     ensures { λ r. ⌜ Counts r (now (room .exit)) ⌝ }
+    ensures { λ r. ⌜ (fd <ℤ pos 0 → r ≡ 0) ⌝ }
 {
-    let fd = os::open_read(b"tables.bin");
     if fd < 0 {
         return 0;
     }
@@ -25,10 +30,25 @@ fn load(room: &mut [u8]) -> usize
     n
 }
 
-// A refused image: 0 and its number.
+// The octets of the file: of one longer than the largest image, as many as that has and one more.
+fn load(room: &mut [u8]) -> usize
+    requires { ⌜ length (now room) ≡ largest + 1 ⌝ }
+    ensures { λ r. ⌜ Counts r (now (room .exit)) ⌝ }
+{
+    contents(os::open_read(b"tables.bin"), room)
+}
+
+// What is told of a refused image: 0 and its number.
+fn refusal(fault: Fault, out: &mut [u8]) -> usize
+    requires { ⌜ 42 ≤ length (now out) ⌝ }
+    ensures { λ r. ⌜ (take r (now (out .exit)) ≡ told 0 (faultNumber fault)) × (r ≤ 42) ⌝ }
+{
+    lines::tell(out, 0, 0, answers::fault_number(fault))
+}
+
 fn refuse(fault: Fault) {
     let mut out = [0u8; 42];
-    let n = lines::tell(&mut out, 0, 0, answers::fault_number(fault));
+    let n = refusal(fault, &mut out);
     io::write_all(STDOUT_FILENO, &out[0..n]);
 }
 
@@ -93,7 +113,6 @@ fn serve(image: &[u8], l: Layout)
     io::write_all(STDOUT_FILENO, &out[0..used]);
 }
 
-// Of a longer file one octet more than the largest image is read.
 fn main() {
     let mut room = [0u8; 46457];
     let n = load(&mut room);

@@ -45,6 +45,7 @@ fn wide(x: u8) -> u64
     x as u64
 }
 
+// The number that a word says.
 pub fn decimal(word: &[u8]) -> Number
     ensures { λ r. ⌜ numberOf r ≡ Words·decimal (now (word .entry)) ⌝ }
 {
@@ -108,6 +109,7 @@ fn hex_pair(a: u8, b: u8) -> Number
     Number::Of(h * 16 + l)
 }
 
+// The name that a word says in hex, into `out`. An octet takes two digits.
 pub fn hex_octets(word: &[u8], out: &mut [u8]) -> Filled
     requires { ⌜ length (now word) ≤ 2 * length (now out) ⌝ }
     ensures { λ r. ⌜ Fills r (now (out .exit)) (hexOctets (now (word .entry))) ⌝ }
@@ -135,6 +137,7 @@ pub fn hex_octets(word: &[u8], out: &mut [u8]) -> Filled
     Filled::Upto(n)
 }
 
+// The identifier that a word says, into `out`. But for the last, a part takes a digit and a dot at least.
 pub fn dotted(word: &[u8], out: &mut [u32]) -> Filled
     requires { ⌜ length (now word) ≤ 2 * length (now out) ⌝ }
     ensures { λ r. ⌜ Fills r (now (out .exit)) (Words·dotted (now (word .entry))) ⌝ }
@@ -151,9 +154,9 @@ pub fn dotted(word: &[u8], out: &mut [u32]) -> Filled
         };
         out[n] = x;
         n += 1;
-        if end == word.len() {
+        at = end + 1;
+        if word.len() < at {
             return Filled::Upto(n);
         }
-        at = end + 1;
     }
 }

@@ -1,34 +1,58 @@
--- `decision::find_view` meets its contract. The loop's invariant: a scan for rows of the view (`Finding`), whether there was one and the latest that
--- matches being carried along. How a row stands says what is carried on, and when the loop ends that is the answer.
--- The measure is how many rows are left. Assumes nothing.
-use Prim.Native.Nat.{_+_, _-_, _≤_}
+-- `decision::find_view` meets its contract. The loop's invariant, of the extent where it began: a walk from the end (`Looking`), whether a row that is
+-- passed is in the view being known, and none of them matching. So a row that matches is the last that does; any other is passed, and when the loop
+-- ends all are. The measure is how many rows are left. Assumes nothing.
+use mathlib.Core.Path.{_≡_, refl, sym, _∙_}
+use mathlib.Core.Logic.{⊎-elim}
+use Prim.Native.Nat.{_+_, _*_}
 use native.Mathlib.Omega.{arith}
-use lib.ListN.{length}
 use borrow.Author.Needs.{needs}
-use Rattle.image.proofs.Walks.{extent}
+use Rattle.rows.specs.declared.Table.the-variants.{View}
+use Rattle.image.specs.declared.Extent.{Extent}
+use Rattle.image.specs.Layout.{endOf}
+use Rattle.image.specs.Image.{SoundTable}
 use Rattle.procedure.specs.Bytes.{identifier}
-use Rattle.decision.proofs.Scanning.{scan-length, scan-row, scan-whole}
-use Rattle.decision.proofs.Finding.{Viewing, viewing-start, viewing-next, viewing-any, viewing-row}
+use Rattle.decision.proofs.Backwards.{back-length, back-row, back-place, back-whole}
+use Rattle.decision.proofs.Finding.{Looking, looking-start, looking-any, looking-none, looking-unmatched, looking-elsewhere, looking-some, looking-found, left-elsewhere}
 use Rattle.decision.proofs.find_view.Statement.{statement}
 use Rattle.decision.proofs.find_view.Tie as tie
 
 abbrev Inv-loop : tie.InvT-loop
-Inv-loop w name variable n i₀ g₀ o₀ v₀ i g o v = Viewing name (identifier variable) w (extent g₀ o₀ n) i g o v
+Inv-loop w name variable i₀ g₀ e₀ any₀ i g e any =
+    (x : Extent) → x .count ≡ i₀ → x .lengths + 2 * x .count ≡ g₀ → e₀ ≡ endOf w x → Looking name (identifier variable) w x i g e any
 
 abbrev μ-loop : tie.MeasureT-loop
-μ-loop w name variable n i₀ g₀ o₀ v₀ i g o v = n - i
+μ-loop w name variable i₀ g₀ e₀ any₀ i g e any = i
 
-row-in : (c : tie.After-pair-at Inv-loop μ-loop) → c .before .before .loop .o + c .pair-at .result ≤ length (c .before .before .before .before .before .before .args .w .now)
-row-in c = scan-row (c .before .before .loop .inv .any-scan) (c .before .loop-test .taken) _ (c .pair-at .ensures .0)
+abbrev start : tie.At-loop Inv-loop μ-loop → tie.Start Inv-loop μ-loop
+start l = l .before .before .before .before .before .before
+
+sound : (l : tie.At-loop Inv-loop μ-loop) → SoundTable View (start l .args .w .now) (start l .args .x)
+sound l = start l .pre
+
+looking : (l : tie.At-loop Inv-loop μ-loop) → let a = start l .args in
+    Looking (a .name .now) (identifier (a .variable .now)) (a .w .now) (a .x) (l .loop .i) (l .loop .g) (l .loop .e) (l .loop .any)
+looking l = l .loop .inv (start l .args .x) refl refl (l .before .rows-end .ensures)
+
+mul-g : tie.Need-mul-g Inv-loop μ-loop
+mul-g c = omega (arith, c .before .before .before .pre .inside .lengths-in)
+
+add-g : tie.Need-add-g Inv-loop μ-loop
+add-g c = omega (arith, c .before .before .before .before .pre .inside .lengths-in)
+
+rows-end-requires : tie.Need-rows-end-requires Inv-loop μ-loop
+rows-end-requires c κs = c .before .before .before .before .pre .inside
 
 loop-holds : tie.Need-loop-holds Inv-loop μ-loop
-loop-holds c = viewing-start _ _ (c .before .before .before .pre)
+loop-holds c = λ x p q r. looking-start _ _ _ x p q r
+
+sub-g : tie.Need-sub-g Inv-loop μ-loop
+sub-g c = back-length (looking (c .before) .walk) (c .loop-test .taken) (sound (c .before) .inside) .0
 
 pair-at-requires : tie.Need-pair-at-requires Inv-loop μ-loop
-pair-at-requires c κs = scan-length (c .before .loop .inv .any-scan) (c .loop-test .taken)
+pair-at-requires c κs = back-length (looking (c .before) .walk) (c .loop-test .taken) (sound (c .before) .inside) .1
 
-add-e : tie.Need-add-e Inv-loop μ-loop
-add-e c = omega (arith, row-in c)
+sub-o : tie.Need-sub-o Inv-loop μ-loop
+sub-o c = back-row (looking (c .before .before) .walk) (c .before .loop-test .taken) _ (c .pair-at .ensures .0)
 
 sub-sight : tie.Need-sub-sight Inv-loop μ-loop
 sub-sight c = search needs
@@ -37,35 +61,51 @@ part-sight-start : tie.Need-part-sight-start Inv-loop μ-loop
 part-sight-start c = search needs
 
 part-sight-end : tie.Need-part-sight-end Inv-loop μ-loop
-part-sight-end c = row-in c
+part-sight-end c = back-place (looking (c .before .before) .walk) (sound (c .before .before) .inside)
 
 sight-requires : tie.Need-sight-requires Inv-loop μ-loop
 sight-requires c κs =
     let p = c .before in
-    scan-whole (p .before .before .loop .inv .any-scan) (p .before .loop-test .taken) _ (p .pair-at .ensures .0)
+    back-whole (looking (p .before .before) .walk) (p .before .loop-test .taken) _ (p .pair-at .ensures .0) (sound (p .before .before))
 
-carry-requires : tie.Need-carry-requires Inv-loop μ-loop
-carry-requires c κs = search needs
+enum-told : tie.Need-enum-told Inv-loop μ-loop
+enum-told c = search needs
 
-add-g : tie.Need-add-g Inv-loop μ-loop
-add-g c = search needs
+returns : tie.Need-returns Inv-loop μ-loop
+returns c =
+    let v = c .before .before in
+    let p = v .before .before in
+    let l = p .before .before in
+    let k = looking l in (
+      looking-some k (p .before .loop-test .taken) _ (p .pair-at .ensures .0) _ (v .sight .ensures) (c .enum-told .given .1),
+      looking-found k (p .before .loop-test .taken) _ (p .pair-at .ensures .0) _ (v .sight .ensures) (c .enum-told .given .1) (sound l),
+    )
 
-add-i : tie.Need-add-i Inv-loop μ-loop
-add-i c = search needs
+enum-told-2 : tie.Need-enum-told-2 Inv-loop μ-loop
+enum-told-2 c = search needs
+
+sub-i : tie.Need-sub-i Inv-loop μ-loop
+sub-i c = search needs
 
 loop-less : tie.Need-loop-less Inv-loop μ-loop
 loop-less c = search needs
 
 loop-again : tie.Need-loop-again Inv-loop μ-loop
 loop-again c =
-    let p = c .before .before .before in
-    rw (c .carry .ensures)
-    (viewing-next (p .before .before .loop .inv) (p .before .loop-test .taken) _ (p .pair-at .ensures .0) _ (c .before .sight .ensures))
+    λ x m q r.
+    let v = c .before .before in
+    let p = v .before .before in
+    let l = p .before .before in
+    let k = l .loop .inv x m q r in
+    ⊎-elim
+    (λ u. rw (u .2) (looking-unmatched k (p .before .loop-test .taken) _ (p .pair-at .ensures .0) _ (v .sight .ensures) (u .1 .given .1)))
+    (λ u. rw (u .1) (looking-elsewhere k (p .before .loop-test .taken) _ (p .pair-at .ensures .0) _ (v .sight .ensures) (left-elsewhere _ (c .before .match .keys2) (u .0 .keys2))))
+    (c .match2 .came)
 
-returns : tie.Need-returns Inv-loop μ-loop
-returns c =
-    let k = c .before .loop .inv in
-    (viewing-any k (c .loop-test .left), viewing-row k (c .before .before .before .before .before .pre) (c .loop-test .left))
+returns-2 : tie.Need-returns-2 Inv-loop μ-loop
+returns-2 c =
+    let k = looking (c .before) in
+    (looking-any k (c .loop-test .left), looking-none k (sound (c .before)) (c .loop-test .left))
 
 pub find-view-spec : {M : Type 1} → statement M
 find-view-spec =
@@ -73,16 +113,21 @@ find-view-spec =
     (tie.spec
     Inv-loop
     μ-loop
+    mul-g
+    add-g
+    rows-end-requires
     loop-holds
+    sub-g
     pair-at-requires
-    add-e
+    sub-o
     sub-sight
     part-sight-start
     part-sight-end
     sight-requires
-    carry-requires
-    add-g
-    add-i
+    enum-told
+    returns
+    enum-told-2
+    sub-i
     loop-less
     loop-again
-    returns)
+    returns-2)

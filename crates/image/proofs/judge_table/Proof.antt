@@ -1,14 +1,16 @@
 -- `image::judge_table` meets its contract. The loop's invariant: a walk over the extent's rows (`Walks`), those passed without fault and
 -- the key of the last of them from `before` to `key` (`Judged`), within what is passed. So a row's own fault, or a key that is not above
--- the last one, is the table's fault, and when no row is left there is none. The measure is how many rows are left. Assumes nothing.
+-- the last one, is the table's fault, and when no row is left there is none; the first row, where `before` is `key`, has none to be above.
+-- The measure is how many rows are left. Assumes nothing.
 use mathlib.Core.Path.{sym, _∙_}
 use mathlib.Core.Logic.{⊎-elim}
 use Prim.Native.Nat.{_+_, _-_, _≤_}
 use native.Mathlib.Omega.{arith}
 use lib.ListN.{length}
 use borrow.Author.Needs.{needs}
+use borrow.Author.Tests.{not-true, not-false}
 use Rattle.image.proofs.Walks.{extent, Walk, walk-start, walk-length, walk-row, walk-next}
-use Rattle.image.proofs.Judged.{Judged, Turn, judged-start, judged-bad, key-within, judged-low, judged-next, judged-end}
+use Rattle.image.proofs.Judged.{Judged, Turn, judged-start, judged-bad, key-within, judged-low, judged-first, judged-next, judged-end}
 use Rattle.image.proofs.judge_table.Statement.{statement}
 use Rattle.image.proofs.judge_table.Tie as tie
 
@@ -25,8 +27,8 @@ row-in c =
     walk-row (c .before .before .loop .inv .0) _ (c .before .loop-test .taken) (c .pair-at .ensures .0) (c .before .before .before .before .pre)
 
 -- the row judged
-turn : (c : tie.After-judge Inv-loop μ-loop) → let p = c .before .before in let l = p .before .before .loop in let s = p .before .before .before .before .args in
-    Turn (s .t) (s .w .now) (s .x) (l .i) (l .g) (l .o) (l .before) (l .key) (p .pair-at .result) (c .judge .result)
+turn : (c : tie.After-judge-row Inv-loop μ-loop) → let p = c .before .before in let l = p .before .before .loop in let s = p .before .before .before .before .args in
+    Turn (s .t) (s .w .now) (s .x) (l .i) (l .g) (l .o) (l .before) (l .key) (p .pair-at .result) (c .judge-row .result)
 turn c =
     let p = c .before .before in
     let l = p .before .before .loop in
@@ -36,7 +38,7 @@ turn c =
       judged = l .inv .1;
       more = p .before .loop-test .taken;
       length-is = p .pair-at .ensures .0;
-      answer-is = c .judge .ensures;
+      answer-is = c .judge-row .ensures;
     }
 
 -- its key lies within it
@@ -54,17 +56,17 @@ pair-at-requires c κs = walk-length (c .before .loop .inv .0) (c .before .befor
 add-e : tie.Need-add-e Inv-loop μ-loop
 add-e c = omega (arith, row-in c)
 
-sub-judge : tie.Need-sub-judge Inv-loop μ-loop
-sub-judge c = search needs
+sub-judge-row : tie.Need-sub-judge-row Inv-loop μ-loop
+sub-judge-row c = search needs
 
-part-judge-start : tie.Need-part-judge-start Inv-loop μ-loop
-part-judge-start c = search needs
+part-judge-row-start : tie.Need-part-judge-row-start Inv-loop μ-loop
+part-judge-row-start c = search needs
 
-part-judge-end : tie.Need-part-judge-end Inv-loop μ-loop
-part-judge-end c = row-in c
+part-judge-row-end : tie.Need-part-judge-row-end Inv-loop μ-loop
+part-judge-row-end c = row-in c
 
-judge-requires : tie.Need-judge-requires Inv-loop μ-loop
-judge-requires c κs = search needs
+judge-row-requires : tie.Need-judge-row-requires Inv-loop μ-loop
+judge-row-requires c κs = search needs
 
 enum-known-s : tie.Need-enum-known-s Inv-loop μ-loop
 enum-known-s c = search needs
@@ -78,35 +80,31 @@ returns c = judged-bad (turn (c .before .before)) (c .enum-told .given .1)
 add-end : tie.Need-add-end Inv-loop μ-loop
 add-end c = omega (arith, key-in c, row-in (c .before .before .before .before .before))
 
-sub-compare : tie.Need-sub-compare Inv-loop μ-loop
-sub-compare c = search needs
+sub-ascends : tie.Need-sub-ascends Inv-loop μ-loop
+sub-ascends c = search needs
 
-part-compare-start : tie.Need-part-compare-start Inv-loop μ-loop
-part-compare-start c = search needs
+part-ascends-start : tie.Need-part-ascends-start Inv-loop μ-loop
+part-ascends-start c = search needs
 
-part-compare-end : tie.Need-part-compare-end Inv-loop μ-loop
-part-compare-end c = search needs
+part-ascends-end : tie.Need-part-ascends-end Inv-loop μ-loop
+part-ascends-end c = search needs
 
-sub-compare-2 : tie.Need-sub-compare-2 Inv-loop μ-loop
-sub-compare-2 c = search needs
+sub-ascends-2 : tie.Need-sub-ascends-2 Inv-loop μ-loop
+sub-ascends-2 c = search needs
 
-part-compare-start-2 : tie.Need-part-compare-start-2 Inv-loop μ-loop
-part-compare-start-2 c = search needs
+part-ascends-start-2 : tie.Need-part-ascends-start-2 Inv-loop μ-loop
+part-ascends-start-2 c = search needs
 
-part-compare-end-2 : tie.Need-part-compare-end-2 Inv-loop μ-loop
-part-compare-end-2 c = omega (arith, key-in (c .before), row-in (c .before .before .before .before .before .before))
+part-ascends-end-2 : tie.Need-part-ascends-end-2 Inv-loop μ-loop
+part-ascends-end-2 c = omega (arith, key-in (c .before .before), row-in (c .before .before .before .before .before .before .before))
 
-compare-requires : tie.Need-compare-requires Inv-loop μ-loop
-compare-requires c κs = search needs
-
-enum-told-2 : tie.Need-enum-told-2 Inv-loop μ-loop
-enum-told-2 c = search needs
+ascends-requires : tie.Need-ascends-requires Inv-loop μ-loop
+ascends-requires c κs = search needs
 
 returns-2 : tie.Need-returns-2 Inv-loop μ-loop
 returns-2 c =
-    let k = c .before .before .before .before in
-    judged-low (turn (k .before .before .before)) (k .before .s .given .1)
-    (λ e. ⊎-elim (λ h. omega arith) (λ h. omega arith) (rw (c .before .compare .ensures ∙ e) at (c .match2 .keys2)))
+    let k = c .before .before .before .before .before in
+    judged-low (turn (k .before .before .before)) (k .before .s .given .1) (sym (c .before .ascends .ensures) ∙ not-true _ (c .if2 .taken))
 
 add-g : tie.Need-add-g Inv-loop μ-loop
 add-g c = search needs
@@ -119,11 +117,15 @@ loop-less c = search needs
 
 loop-again : tie.Need-loop-again Inv-loop μ-loop
 loop-again c =
-    let k = c .before .before .before .before .before in
+    let k = c .before in
     let n = turn (k .before .before .before) in
-    let e = sym (c .before .before .compare .ensures) ∙ c .enum-told2 .given .1 in (
+    let p = k .before .s .given .1 in
+    let e = ⊎-elim
+    (λ u. sym (u .3 .ensures) ∙ not-false _ (u .4 .left))
+    (λ u. judged-first n p (omega (arith, u .left, k .before .before .before .before .before .before .before .loop .inv .2)))
+    (c .if1 .came) in (
       walk-next (n .walk) _ (n .more) (n .length-is),
-      judged-next n (k .before .s .given .1) e,
+      judged-next n p e,
       omega arith,
       omega (arith, key-in k),
     )
@@ -140,22 +142,21 @@ judge-table-spec =
     loop-holds
     pair-at-requires
     add-e
-    sub-judge
-    part-judge-start
-    part-judge-end
-    judge-requires
+    sub-judge-row
+    part-judge-row-start
+    part-judge-row-end
+    judge-row-requires
     enum-known-s
     enum-told
     returns
     add-end
-    sub-compare
-    part-compare-start
-    part-compare-end
-    sub-compare-2
-    part-compare-start-2
-    part-compare-end-2
-    compare-requires
-    enum-told-2
+    sub-ascends
+    part-ascends-start
+    part-ascends-end
+    sub-ascends-2
+    part-ascends-start-2
+    part-ascends-end-2
+    ascends-requires
     returns-2
     add-g
     add-i

@@ -1,14 +1,12 @@
-use Rattle.lines.proofs.Steps.{Going, going-none, going-on, going-room}
-use Rattle.image.specs.Image.{tablesAt}
-use lib.ListN.{length}
+-- `lines::answer_lines` meets its contract. The loop's invariant: what is written and what is still to be written are the same as at the start (`Going`).
+-- The measure is what is left of the piece. Assumes nothing.
 use Prim.Native.Nat.{_-_}
-use borrow.Author.Needs.{needs}
 use native.Mathlib.Omega.{arith}
+use lib.ListN.{length}
+use Rattle.image.specs.Image.{tablesAt}
+use Rattle.lines.proofs.Steps.{Going, going-none, going-on, going-room}
 use Rattle.lines.proofs.answer_lines.Statement.{statement}
 use Rattle.lines.proofs.answer_lines.Tie as tie
-use Rattle.lines.proofs.answer_lines.Reads as reads
-use Rattle.lines.proofs.answer_lines.Lts as lts
-use Rattle.lines.proofs.answer_next.Reads as answer-next-reads
 
 abbrev Inv-loop : tie.InvT-loop
 Inv-loop image l piece line₀ out₀ q₀ line out q = Going (tablesAt image l) q₀ q line₀ line piece out₀ out
@@ -16,50 +14,42 @@ Inv-loop image l piece line₀ out₀ q₀ line out q = Going (tablesAt image l)
 abbrev μ-loop : tie.MeasureT-loop
 μ-loop image l piece line₀ out₀ q₀ line out q = length piece - q .at
 
--- src/lib.rt:451:5
 loop-holds : tie.Need-loop-holds Inv-loop μ-loop
 loop-holds c = going-none (tablesAt _ _) (c .before .before .before .before .pre .1 .0)
 
--- src/lib.rt:452:12
 sub-if2 : tie.Need-sub-if2 Inv-loop μ-loop
 sub-if2 c = c .before .before .before .loop .inv .steps .ready .used-in
 
--- src/lib.rt:453:13
 same-length : tie.Need-same-length Inv-loop μ-loop
 same-length c = c .before .before .before .before .loop .inv .same-line
 
--- src/lib.rt:453:13
 same-length-2 : tie.Need-same-length-2 Inv-loop μ-loop
 same-length-2 c = c .before .before .before .before .loop .inv .same-out
 
--- src/lib.rt:453:13
 returns : tie.Need-returns Inv-loop μ-loop
 returns c = let i = c .before .before .before .before .loop .inv in
     (i .steps, (λ h r. going-room i r (c .if2 .taken), λ r. absurd (omega (arith, c .if2 .taken))))
 
--- src/lib.rt:455:9
 answer-next-requires : tie.Need-answer-next-requires Inv-loop μ-loop
 answer-next-requires c κs = let l = c .before .before .before .before .before .before .loop in
     let s = c .before .before .before .before .before .before .before .before .before .before .before in
     (s .pre .0, (l .inv .steps .ready, (c .before .before .before .before .if1 .taken, omega (arith, c .before .before .if2 .left, l .inv .steps .ready .used-in), omega (arith, l .inv .steps .counts, s .pre .1 .1))))
 
--- src/lib.rt:451:5
 loop-less : tie.Need-loop-less Inv-loop μ-loop
 loop-less c = let d = c .before .before .before .before .answer-next in omega (arith, d .ensures .1, c .before .before .before .before .before .before .before .before .before .if1 .taken)
 
--- src/lib.rt:451:5
 loop-again : tie.Need-loop-again Inv-loop μ-loop
-loop-again c = let d = c .before .before .before .before .answer-next in going-on (c .before .before .before .before .before .before .before .before .before .before .before .loop .inv) (d .ensures .0) (d .ensures .1) (d .kept .1 .1 .1 .1 .0) (d .kept .1 .1 .1 .1 .1 .0)
+loop-again c =
+    let n = c .before .before .before .before in
+    let d = n .answer-next in
+    going-on (n .before .before .before .before .before .before .before .loop .inv) (d .ensures .0) (d .ensures .1) (d .kept .1 .1 .1 .1 .0) (d .kept .1 .1 .1 .1 .1 .0)
 
--- src/lib.rt:435:1
 same-length-3 : tie.Need-same-length-3 Inv-loop μ-loop
 same-length-3 c = c .before .before .loop .inv .same-line
 
--- src/lib.rt:435:1
 same-length-4 : tie.Need-same-length-4 Inv-loop μ-loop
 same-length-4 c = c .before .before .loop .inv .same-out
 
--- src/lib.rt:435:1
 returns-2 : tie.Need-returns-2 Inv-loop μ-loop
 returns-2 c = let i = c .before .before .loop .inv in
     (i .steps, (λ h r. omega (arith, c .if1 .left), λ r. omega (arith, c .if1 .left, i .steps .ready .at-in)))

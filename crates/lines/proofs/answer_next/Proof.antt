@@ -1,25 +1,18 @@
-use lib.ListN.{length}
+-- `lines::answer_next` meets its contract. Where the piece ends within the line it is held on, and otherwise told (`Steps`). Assumes nothing.
 use Prim.Native.Nat.{_<_}
-use Rattle.lines.proofs.Steps.{step-held, step-told}
 use native.Mathlib.Omega.{arith}
+use lib.ListN.{length}
 use borrow.Author.Needs.{needs}
+use Rattle.lines.proofs.Steps.{step-held, step-told}
 use Rattle.lines.proofs.answer_next.Statement.{statement}
 use Rattle.lines.proofs.answer_next.Tie as tie
-use Rattle.lines.proofs.answer_next.Reads as reads
-use Rattle.lines.proofs.answer_next.Lts as lts
-use Rattle.lines.proofs.answer_line.Reads as answer-line-reads
-use Rattle.lines.proofs.continue_line.Reads as continue-line-reads
-use Rattle.lines.proofs.tell.Reads as tell-reads
 
--- src/lib.rt:411:9
 continue-line-requires : tie.Need-continue-line-requires
 continue-line-requires c κs = let r = c .before .before .before .before .before .pre .1 .0 in (r .held-in, r .at-in)
 
--- src/lib.rt:416:9
 same-length : tie.Need-same-length
 same-length c = search needs
 
--- src/lib.rt:416:9
 returns : tie.Need-returns
 returns c = let s = c .before .before .before .before .before .before .before .before .before in
     let k = c .before .before .before .continue-line in (
@@ -27,43 +20,36 @@ returns c = let s = c .before .before .before .before .before .before .before .b
       omega (arith, s .pre .1 .1, c .if1 .taken),
     )
 
--- src/lib.rt:423:18
 add-number : tie.Need-add-number
 add-number c = omega (arith, c .before .before .before .before .before .before .before .before .before .before .pre .1 .1)
 
--- src/lib.rt:424:40
 sub-answer-line : tie.Need-sub-answer-line
 sub-answer-line c = search needs
 
--- src/lib.rt:424:40
 part-answer-line-start : tie.Need-part-answer-line-start
 part-answer-line-start c = search needs
 
--- src/lib.rt:424:40
 part-answer-line-end : tie.Need-part-answer-line-end
 part-answer-line-end c = let k = c .before .before .before .before .before .continue-line in omega (arith, k .ensures .holds-in, k .kept .0)
 
--- src/lib.rt:424:9
 answer-line-requires : tie.Need-answer-line-requires
 answer-line-requires c κs = c .before .before .before .before .before .before .before .before .before .before .before .before .pre .0
 
--- src/lib.rt:425:9
 tell-requires : tie.Need-tell-requires
 tell-requires c κs = c .before .before .before .before .before .before .before .before .before .before .before .before .before .before .pre .1 .1 .1
 
--- src/lib.rt:429:13
 add-t18 : tie.Need-add-t18
-add-t18 c = let k = c .before .before .before .before .before .before .before .before .before .before .before .continue-line in omega (arith, k .ensures .ends-in, c .before .before .before .before .before .before .before .before .if1 .left, c .before .before .before .before .before .before .before .before .before .before .before .before .before .before .before .before .before .good)
+add-t18 c =
+    let t = c .before .before .before .before .before .before .before .before in
+    let k = t .before .before .before in
+    omega (arith, k .continue-line .ensures .ends-in, t .if1 .left, k .before .before .before .before .before .before .good)
 
--- src/lib.rt:395:1
 same-length-2 : tie.Need-same-length-2
 same-length-2 c = search needs
 
--- src/lib.rt:395:1
 same-length-3 : tie.Need-same-length-3
 same-length-3 c = search needs
 
--- src/lib.rt:395:1
 returns-2 : tie.Need-returns-2
 returns-2 c = let s = c .before .before .before .before .before .before .before .before .before .before .before .before .before .before .before .before .before in
     let k = c .before .before .before .before .before .before .before .before .before .before .before .continue-line in

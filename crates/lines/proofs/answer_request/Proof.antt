@@ -1,28 +1,23 @@
-use Rattle.decision.proofs.Answers.{variable-few}
-use Rattle.decision.proofs.Spelling.{spelt-room, spelt-identifier}
-use Rattle.procedure.specs.Decision.{decision}
-use Rattle.procedure.specs.Request.{Request, asked, legalRequest}
-use Rattle.image.specs.Image.{tablesAt}
-use Rattle.answers.specs.Numbers.{answerNumber}
-use Rattle.answers.specs.declared.Answer.the-variants.{Decided}
-use borrow.Author.Tests.{not-true, not-false}
-use lib.ListN.{length, getD}
-use Prim.Native.Nat.{ℕ, _≤_, _<_}
+-- `lines::answer_request` meets its contract. A request out of its ranges is 7; otherwise the bytes spelt say the variable's parts again, each being below
+-- 2^32, and `decide` answers over the tables. Assumes nothing.
 use mathlib.Core.List.{List}
 use mathlib.Core.Bool.{true, false}
 use mathlib.Core.Path.{_≡_, refl, sym, ap, _∙_}
+use Prim.Native.Nat.{ℕ, _≤_, _<_}
 use native.Mathlib.Omega.{arith}
+use lib.ListN.{length, getD}
+use borrow.Author.Tests.{not-true, not-false}
 use borrow.Author.Needs.{needs}
+use Rattle.answers.specs.Numbers.{answerNumber}
+use Rattle.answers.specs.declared.Answer.the-variants.{Decided}
+use Rattle.image.specs.Image.{tablesAt}
+use Rattle.procedure.specs.Decision.{decision}
+use Rattle.procedure.specs.Request.{Request, asked, legalRequest}
+use Rattle.decision.proofs.Answers.{variable-few}
+use Rattle.decision.proofs.Spelling.{spelt-room, spelt-identifier}
 use Rattle.lines.proofs.answer_request.Statement.{statement}
 use Rattle.lines.proofs.answer_request.Tie as tie
-use Rattle.lines.proofs.answer_request.Reads as reads
-use Rattle.lines.proofs.answer_request.Lts as lts
-use Rattle.answers.proofs.answer_number.Reads as answer-number-reads
-use Rattle.decision.proofs.decide.Reads as decide-reads
-use Rattle.decision.proofs.in_range.Reads as in-range-reads
-use Rattle.decision.proofs.spell.Reads as spell-reads
 
--- where `in_range` is called
 abbrev start : tie.After-in-range → tie.Start
 start c = c .before .before .before .before .before
 
@@ -54,48 +49,37 @@ bytes c = c .spell .last .1 .0
 parts-below : (c : tie.After-spell) (i : ℕ) → getD (parts c) i 0 < 4294967296
 parts-below c i = omega (arith, c .before .before .before .before .shared-slice-known4 .given i)
 
--- src/lib.rt:284:9
 in-range-requires : tie.Need-in-range-requires
 in-range-requires c κs = search needs
 
--- src/lib.rt:285:9
 answer-number-requires : tie.Need-answer-number-requires
 answer-number-requires c κs = search needs
 
--- src/lib.rt:285:9
 returns : tie.Need-returns
 returns c = let r = c .before .before in
     c .answer-number .ensures ∙ sym (rw (illegal (c .before)))
 
--- src/lib.rt:288:5
 spell-requires : tie.Need-spell-requires
 spell-requires c κs = (few (c .before), refl)
 
--- src/lib.rt:289:13
 mul-n : tie.Need-mul-n
 mul-n c = omega (arith, few (c .before .before))
 
--- src/lib.rt:298:9
 sub-decide : tie.Need-sub-decide
 sub-decide c = search needs
 
--- src/lib.rt:298:9
 part-decide-start : tie.Need-part-decide-start
 part-decide-start c = search needs
 
--- src/lib.rt:298:9
 part-decide-end : tie.Need-part-decide-end
 part-decide-end c = let l = c .before in spelt-room (parts l) (parts-below l) (bytes l) (l .spell .ensures)
 
--- src/lib.rt:290:9
 decide-requires : tie.Need-decide-requires
 decide-requires c κs = start (c .before .before .before .before .before) .pre
 
--- src/lib.rt:300:5
 answer-number-requires-2 : tie.Need-answer-number-requires-2
 answer-number-requires-2 c κs = search needs
 
--- src/lib.rt:271:1
 returns-2 : tie.Need-returns-2
 returns-2 c = let d = c .before in
     let l = d .before .before .before in

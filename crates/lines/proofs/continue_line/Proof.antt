@@ -1,64 +1,48 @@
+-- `lines::continue_line` meets its contract: what there is room for of the part is what a cut of the whole line leaves (`Lines`). Assumes nothing.
+use mathlib.Core.Path.{_≡_}
+use Prim.Native.Nat.{_+_, _-_, min}
+use native.Mathlib.Omega.{arith}
+use lib.ListN.{length, drop}
+use borrow.Author.Needs.{needs}
+use Rattle.words.specs.Words.{run}
 use Rattle.lines.proofs.Lines.{continue-made}
 use Rattle.words.proofs.Words.{run-most}
-use Rattle.words.specs.Words.{run}
-use lib.ListN.{length, drop}
-use Prim.Native.Nat.{_+_, _-_, min}
-use mathlib.Core.Path.{_≡_}
-use native.Mathlib.Omega.{arith}
-use borrow.Author.Needs.{needs}
 use Rattle.lines.proofs.continue_line.Statement.{statement}
 use Rattle.lines.proofs.continue_line.Tie as tie
-use Rattle.lines.proofs.continue_line.Reads as reads
-use Rattle.lines.proofs.continue_line.Lts as lts
-use Rattle.words.proofs.end_of.Reads as end-of-reads
-use Rattle.lines.proofs.least.Reads as least-reads
-use Rattle.splice.proofs.copy_in.Reads as copy-in-reads
 
--- src/lib.rt:376:9
 end-of-requires : tie.Need-end-of-requires
 end-of-requires c κs = search needs
 
--- src/lib.rt:377:19
 sub-least : tie.Need-sub-least
 sub-least c = search needs
 
--- src/lib.rt:377:29
 sub-least-2 : tie.Need-sub-least-2
 sub-least-2 c = search needs
 
--- src/lib.rt:377:9
 least-requires : tie.Need-least-requires
 least-requires c κs = search needs
 
--- src/lib.rt:378:14
 add-to : tie.Need-add-to
 add-to c = search needs
 
--- src/lib.rt:379:33
 sub-copy-in : tie.Need-sub-copy-in
 sub-copy-in c = search needs
 
--- src/lib.rt:379:33
 part-copy-in-start : tie.Need-part-copy-in-start
 part-copy-in-start c = search needs
 
--- src/lib.rt:379:33
 part-copy-in-end : tie.Need-part-copy-in-end
 part-copy-in-end c = search needs
 
--- src/lib.rt:379:5
 copy-in-requires : tie.Need-copy-in-requires
 copy-in-requires c κs = search needs
 
--- src/lib.rt:381:15
 add-t10 : tie.Need-add-t10
 add-t10 c = search needs
 
--- src/lib.rt:372:1
 same-length : tie.Need-same-length
 same-length c = search needs
 
--- src/lib.rt:372:1
 returns : tie.Need-returns
 returns c = let f = c .before .before .before .before .before .before in
     let a = f .before .before .before .args in

@@ -1,155 +1,122 @@
-use Rattle.lines.proofs.Requests.{request-other, request-six}
-use Rattle.lines.specs.Requests.{Cuts}
-use Rattle.words.specs.Words.{words}
-use Rattle.lines.specs.declared.Cut.the-variants.{Six}
-use lib.ListN.{length, length-take, length-drop}
-use lib.Dec.{eqb}
+-- `lines::parse_request` meets its contract. The six words lie between the five spaces, each within the line, and the request is what they say. Assumes nothing.
 use mathlib.Core.Bool.{false}
 use mathlib.Core.Path.{_≡_, sym}
 use native.Mathlib.Omega.{arith}
+use lib.ListN.{length, length-take, length-drop}
+use lib.Dec.{eqb}
 use borrow.Author.Needs.{needs}
+use Rattle.lines.specs.Requests.{Cuts}
+use Rattle.words.specs.Words.{words}
+use Rattle.lines.specs.declared.Cut.the-variants.{Six}
+use Rattle.lines.proofs.Requests.{request-other, request-six}
 use Rattle.lines.proofs.parse_request.Statement.{statement}
 use Rattle.lines.proofs.parse_request.Tie as tie
-use Rattle.lines.proofs.parse_request.Reads as reads
-use Rattle.lines.proofs.parse_request.Lts as lts
-use Rattle.lines.proofs.parse_words.Reads as parse-words-reads
-use Rattle.lines.proofs.six_words.Reads as six-words-reads
 
--- where the six words stand
 cut : (c : tie.After-known-told) →
     let p = c .before .a .given .0 in
     Cuts (Six (p .0) (p .1 .0) (p .1 .1 .0) (p .1 .1 .1 .0) (p .1 .1 .1 .1 .0)) (c .before .before .before .before .before .before .before .before .args .line .now)
 cut c = rw (c .before .a .given .1) at (c .before .before .before .six-words .ensures)
 
--- src/lib.rt:276:35
 six-words-requires : tie.Need-six-words-requires
 six-words-requires c κs = search needs
 
--- src/lib.rt:276:18
 enum-known-a : tie.Need-enum-known-a
 enum-known-a c = search needs
 
--- src/lib.rt:277:9
 enum-told : tie.Need-enum-told
 enum-told c = search needs
 
--- src/lib.rt:277:9
 returns : tie.Need-returns
 returns c = let e : eqb (length (words (c .before .before .before .before .before .before .before .args .line .now))) 6 ≡ false = rw (c .enum-told .given .1) at (c .before .before .six-words .ensures) in
     record { is = sym (request-other _ e); inside = tt }
 
--- src/lib.rt:279:17
-add-level : tie.Need-add-level
-add-level c = let k = cut (c) in omega arith
+add-level-at : tie.Need-add-level-at
+add-level-at c = let k = cut c in omega arith
 
--- src/lib.rt:280:16
-add-kind : tie.Need-add-kind
-add-kind c = let k = cut (c) in omega arith
+add-kind-at : tie.Need-add-kind-at
+add-kind-at c = let k = cut c in omega arith
 
--- src/lib.rt:281:20
-add-security : tie.Need-add-security
-add-security c = let k = cut (c) in omega arith
+add-name-at : tie.Need-add-name-at
+add-name-at c = let k = cut c in omega arith
 
--- src/lib.rt:282:17
-add-inner : tie.Need-add-inner
-add-inner c = let k = cut (c) in omega arith
+add-context-at : tie.Need-add-context-at
+add-context-at c = let k = cut c in omega arith
 
--- src/lib.rt:283:18
-add-object : tie.Need-add-object
-add-object c = let k = cut (c) in omega arith
+add-variable-at : tie.Need-add-variable-at
+add-variable-at c = let k = cut c in omega arith
 
--- src/lib.rt:285:9
 sub-parse-words : tie.Need-sub-parse-words
 sub-parse-words c = search needs
 
--- src/lib.rt:285:9
 part-parse-words-start : tie.Need-part-parse-words-start
 part-parse-words-start c = search needs
 
--- src/lib.rt:285:9
 part-parse-words-end : tie.Need-part-parse-words-end
-part-parse-words-end c = let k = cut (c) in omega arith
+part-parse-words-end c = let k = cut c in omega arith
 
--- src/lib.rt:286:9
 sub-parse-words-2 : tie.Need-sub-parse-words-2
 sub-parse-words-2 c = let k = cut (c .before) in omega arith
 
--- src/lib.rt:286:9
 part-parse-words-start-2 : tie.Need-part-parse-words-start-2
 part-parse-words-start-2 c = let k = cut (c .before) in omega arith
 
--- src/lib.rt:286:9
 part-parse-words-end-2 : tie.Need-part-parse-words-end-2
 part-parse-words-end-2 c = let k = cut (c .before) in omega arith
 
--- src/lib.rt:287:9
 sub-parse-words-3 : tie.Need-sub-parse-words-3
 sub-parse-words-3 c = let k = cut (c .before .before) in omega arith
 
--- src/lib.rt:287:9
 part-parse-words-start-3 : tie.Need-part-parse-words-start-3
 part-parse-words-start-3 c = let k = cut (c .before .before) in omega arith
 
--- src/lib.rt:287:9
 part-parse-words-end-3 : tie.Need-part-parse-words-end-3
 part-parse-words-end-3 c = let k = cut (c .before .before) in omega arith
 
--- src/lib.rt:288:9
 sub-parse-words-4 : tie.Need-sub-parse-words-4
 sub-parse-words-4 c = let k = cut (c .before .before .before) in omega arith
 
--- src/lib.rt:288:9
 part-parse-words-start-4 : tie.Need-part-parse-words-start-4
 part-parse-words-start-4 c = let k = cut (c .before .before .before) in omega arith
 
--- src/lib.rt:288:9
 part-parse-words-end-4 : tie.Need-part-parse-words-end-4
 part-parse-words-end-4 c = let k = cut (c .before .before .before) in omega arith
 
--- src/lib.rt:289:9
 sub-parse-words-5 : tie.Need-sub-parse-words-5
 sub-parse-words-5 c = let k = cut (c .before .before .before .before) in omega arith
 
--- src/lib.rt:289:9
 part-parse-words-start-5 : tie.Need-part-parse-words-start-5
 part-parse-words-start-5 c = let k = cut (c .before .before .before .before) in omega arith
 
--- src/lib.rt:289:9
 part-parse-words-end-5 : tie.Need-part-parse-words-end-5
 part-parse-words-end-5 c = let k = cut (c .before .before .before .before) in omega arith
 
--- src/lib.rt:290:9
 sub-parse-words-6 : tie.Need-sub-parse-words-6
 sub-parse-words-6 c = let k = cut (c .before .before .before .before .before) in omega arith
 
--- src/lib.rt:290:9
 part-parse-words-start-6 : tie.Need-part-parse-words-start-6
 part-parse-words-start-6 c = let k = cut (c .before .before .before .before .before) in omega arith
 
--- src/lib.rt:290:9
 part-parse-words-end-6 : tie.Need-part-parse-words-end-6
 part-parse-words-end-6 c = search needs
 
--- src/lib.rt:284:5
 parse-words-requires : tie.Need-parse-words-requires
 parse-words-requires c κs = let k = c .before .before .before .before .before .before .before .before .before .before .before .before .before .before .before .before .before .pre in
     (simp (length-take, length-drop) (omega (arith, k .0)), simp (length-take, length-drop) (omega (arith, k .1)), simp (length-take, length-drop) (omega (arith, k .2)))
 
--- src/lib.rt:267:1
 same-length : tie.Need-same-length
 same-length c = search needs
 
--- src/lib.rt:267:1
 same-length-2 : tie.Need-same-length-2
 same-length-2 c = search needs
 
--- src/lib.rt:267:1
 same-length-3 : tie.Need-same-length-3
 same-length-3 c = search needs
 
--- src/lib.rt:267:1
 returns-2 : tie.Need-returns-2
-returns-2 c = rw (request-six _ _ _ _ _ _ (cut (c .before .before .before .before .before .before .before .before .before .before .before .before .before .before .before .before) .5)) (c .before .before .before .before .before .before .parse-words .ensures)
+returns-2 c =
+    let p = c .before .before .before .before .before .before in
+    let k = cut (p .before .before .before .before .before .before .before .before .before .before) in
+    rw (request-six _ _ _ _ _ _ (k .5)) (p .parse-words .ensures)
 
 pub parse-request-spec : {M : Type 1} → statement M
 parse-request-spec =
@@ -159,11 +126,11 @@ parse-request-spec =
     enum-known-a
     enum-told
     returns
-    add-level
-    add-kind
-    add-security
-    add-inner
-    add-object
+    add-level-at
+    add-kind-at
+    add-name-at
+    add-context-at
+    add-variable-at
     sub-parse-words
     part-parse-words-start
     part-parse-words-end

@@ -1,20 +1,15 @@
-use Rattle.words.proofs.Words.{number-is, number-bad, filled-is, filled-in, filled-bad}
-use Rattle.lines.specs.Requests.{requestOf}
-use Rattle.words.specs.Words.{decimal, hexOctets, dotted}
-use lib.ListN.{take}
+-- `lines::parse_words` meets its contract. The words are read in their order; where one says nothing there is no request, and otherwise each field is what
+-- its word says. Assumes nothing.
 use mathlib.Core.Option.{some, bind}
 use mathlib.Core.Path.{_≡_, sym}
-use native.Mathlib.Omega.{arith}
+use lib.ListN.{take}
 use borrow.Author.Needs.{needs}
+use Rattle.lines.specs.Requests.{requestOf}
+use Rattle.words.specs.Words.{decimal, hexOctets}
+use Rattle.words.proofs.Words.{number-is, number-bad, filled-is, filled-in, filled-bad}
 use Rattle.lines.proofs.parse_words.Statement.{statement}
 use Rattle.lines.proofs.parse_words.Tie as tie
-use Rattle.lines.proofs.parse_words.Reads as reads
-use Rattle.lines.proofs.parse_words.Lts as lts
-use Rattle.words.proofs.decimal.Reads as decimal-reads
-use Rattle.words.proofs.dotted.Reads as dotted-reads
-use Rattle.words.proofs.hex_octets.Reads as hex-octets-reads
 
--- the places where each word was taken, one before the other
 abbrev to1 : tie.After-known-told2 → tie.After-known-told
 to1 c = c .before .before .before .before
 
@@ -54,76 +49,59 @@ context-is : (c : tie.After-known-told5) → let h = c .before .before .before .
     hexOctets (start4 (to4 c) .args .c .now) ≡ some (take (c .before .contexts .given .0 .0) (h .hex-octets2 .last .1 .0))
 context-is c = let h = c .before .before .before .before .before in filled-is (h .hex-octets2 .ensures) _ (c .before .contexts .given .1)
 
--- src/lib.rt:238:29
 decimal-requires : tie.Need-decimal-requires
 decimal-requires c κs = search needs
 
--- src/lib.rt:238:20
 enum-known-model : tie.Need-enum-known-model
 enum-known-model c = search needs
 
--- src/lib.rt:239:9
 enum-told : tie.Need-enum-told
 enum-told c = search needs
 
--- src/lib.rt:239:9
 returns : tie.Need-returns
 unfolding requestOf bind
 returns c = let e = number-bad (c .enum-told .given .1) (c .before .before .decimal .ensures) in record { is = sym (rw e); inside = tt }
 
--- src/lib.rt:241:29
 decimal-requires-2 : tie.Need-decimal-requires-2
 decimal-requires-2 c κs = search needs
 
--- src/lib.rt:241:20
 enum-known-level : tie.Need-enum-known-level
 enum-known-level c = search needs
 
--- src/lib.rt:242:9
 enum-told-2 : tie.Need-enum-told-2
 enum-told-2 c = search needs
 
--- src/lib.rt:242:9
 returns-2 : tie.Need-returns-2
 unfolding requestOf bind
 returns-2 c = let e = number-bad (c .enum-told2 .given .1) (c .before .before .decimal2 .ensures) in record { is = sym (rw (model-is (c .before .before .before), e)); inside = tt }
 
--- src/lib.rt:244:28
 decimal-requires-3 : tie.Need-decimal-requires-3
 decimal-requires-3 c κs = search needs
 
--- src/lib.rt:244:20
 enum-known-kind : tie.Need-enum-known-kind
 enum-known-kind c = search needs
 
--- src/lib.rt:245:9
 enum-told-3 : tie.Need-enum-told-3
 enum-told-3 c = search needs
 
--- src/lib.rt:245:9
 returns-3 : tie.Need-returns-3
 unfolding requestOf bind
 returns-3 c = let e = number-bad (c .enum-told3 .given .1) (c .before .before .decimal3 .ensures) in
     let d = c .before .before .before in
     record { is = sym (rw (model-is (to1 d), level-is d, e)); inside = tt }
 
--- src/lib.rt:247:31
 hex-octets-requires : tie.Need-hex-octets-requires
 hex-octets-requires c κs = search needs
 
--- src/lib.rt:247:22
 enum-known-names : tie.Need-enum-known-names
 enum-known-names c = search needs
 
--- src/lib.rt:248:9
 enum-told-4 : tie.Need-enum-told-4
 enum-told-4 c = search needs
 
--- src/lib.rt:248:9
 same-length : tie.Need-same-length
 same-length c = search needs
 
--- src/lib.rt:248:9
 returns-4 : tie.Need-returns-4
 unfolding requestOf bind
 returns-4 c = let h = c .before .before .before .before in
@@ -131,27 +109,21 @@ returns-4 c = let h = c .before .before .before .before in
     let d = h .before .before in
     record { is = sym (rw (model-is (to1 (to2 d)), level-is (to2 d), kind-is d, e)); inside = tt }
 
--- src/lib.rt:250:34
 hex-octets-requires-2 : tie.Need-hex-octets-requires-2
 hex-octets-requires-2 c κs = search needs
 
--- src/lib.rt:250:22
 enum-known-contexts : tie.Need-enum-known-contexts
 enum-known-contexts c = search needs
 
--- src/lib.rt:251:9
 enum-told-5 : tie.Need-enum-told-5
 enum-told-5 c = search needs
 
--- src/lib.rt:251:9
 same-length-2 : tie.Need-same-length-2
 same-length-2 c = search needs
 
--- src/lib.rt:251:9
 same-length-3 : tie.Need-same-length-3
 same-length-3 c = search needs
 
--- src/lib.rt:251:9
 returns-5 : tie.Need-returns-5
 unfolding requestOf bind
 returns-5 c = let h = c .before .before .before .before in
@@ -160,31 +132,24 @@ returns-5 c = let h = c .before .before .before .before in
     let k = to3 d in
     record { is = sym (rw (model-is (to1 (to2 k)), level-is (to2 k), kind-is k, name-is d, e)); inside = tt }
 
--- src/lib.rt:253:35
 dotted-requires : tie.Need-dotted-requires
 dotted-requires c κs = start4 (to4 (c .before)) .pre .2
 
--- src/lib.rt:253:22
 enum-known-variables : tie.Need-enum-known-variables
 enum-known-variables c = search needs
 
--- src/lib.rt:254:9
 enum-told-6 : tie.Need-enum-told-6
 enum-told-6 c = search needs
 
--- src/lib.rt:254:9
 same-length-4 : tie.Need-same-length-4
 same-length-4 c = search needs
 
--- src/lib.rt:254:9
 same-length-5 : tie.Need-same-length-5
 same-length-5 c = search needs
 
--- src/lib.rt:254:9
 same-length-6 : tie.Need-same-length-6
 same-length-6 c = search needs
 
--- src/lib.rt:254:9
 returns-6 : tie.Need-returns-6
 unfolding requestOf bind
 returns-6 c = let h = c .before .before .before .before in
@@ -194,19 +159,15 @@ returns-6 c = let h = c .before .before .before .before in
     let k = to3 n in
     record { is = sym (rw (model-is (to1 (to2 k)), level-is (to2 k), kind-is k, name-is n, context-is d, e)); inside = tt }
 
--- src/lib.rt:224:1
 same-length-7 : tie.Need-same-length-7
 same-length-7 c = search needs
 
--- src/lib.rt:224:1
 same-length-8 : tie.Need-same-length-8
 same-length-8 c = search needs
 
--- src/lib.rt:224:1
 same-length-9 : tie.Need-same-length-9
 same-length-9 c = search needs
 
--- src/lib.rt:224:1
 returns-7 : tie.Need-returns-7
 unfolding requestOf bind
 returns-7 c = let h = c .before .before .before .before .before in

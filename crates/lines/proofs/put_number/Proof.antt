@@ -1,47 +1,36 @@
-use Rattle.lines.proofs.Numerals.{digits-few, number-made}
+-- `lines::put_number` meets its contract: the fewest digits that hold a number are its numeral, at most 20 of them (`Numerals`). Assumes nothing.
 use mathlib.Core.Path.{_≡_}
 use Prim.Native.Nat.{_-_, _≤_}
 use native.Mathlib.Omega.{arith}
 use borrow.Author.Needs.{needs}
+use Rattle.lines.proofs.Numerals.{digits-few, number-made}
 use Rattle.lines.proofs.put_number.Statement.{statement}
 use Rattle.lines.proofs.put_number.Tie as tie
-use Rattle.lines.proofs.put_number.Reads as reads
-use Rattle.lines.proofs.put_number.Lts as lts
-use Rattle.io.proofs.decimal.Reads as decimal-reads
-use Rattle.splice.proofs.copy_in.Reads as copy-in-reads
 
 few : (c : tie.After-decimal) → c .decimal .result ≤ 20
 few c = let s = c .before .before .before in digits-few _ (s .args .n) (s .fits .n .fits) (c .decimal .ensures .1 .0)
 
--- src/lib.rt:341:9
 decimal-requires : tie.Need-decimal-requires
 decimal-requires c κs = search needs
 
--- src/lib.rt:342:30
 sub-copy-in : tie.Need-sub-copy-in
 sub-copy-in c = search needs
 
--- src/lib.rt:342:30
 part-copy-in-start : tie.Need-part-copy-in-start
 part-copy-in-start c = search needs
 
--- src/lib.rt:342:30
 part-copy-in-end : tie.Need-part-copy-in-end
 part-copy-in-end c = search needs
 
--- src/lib.rt:342:5
 copy-in-requires : tie.Need-copy-in-requires
 copy-in-requires c κs = let d = c .before .before .before in let z : d .decimal .result - 0 ≡ d .decimal .result = omega arith in rw (z, ← d .decimal .ensures .0 .1) (omega (arith, few d))
 
--- src/lib.rt:343:5
 add-result : tie.Need-add-result
 add-result c = omega (arith, few (c .before .before .before .before .before .before))
 
--- src/lib.rt:336:1
 same-length : tie.Need-same-length
 same-length c = search needs
 
--- src/lib.rt:336:1
 returns : tie.Need-returns
 returns c = let d = c .before .before .before .before .before .before in
     let s = d .before .before .before in

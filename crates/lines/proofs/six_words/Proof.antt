@@ -1,19 +1,16 @@
-use Rattle.lines.proofs.Requests.{below}
-use Rattle.lines.proofs.Requests.{words-next, words-last, words-few, words-many}
-use Rattle.words.specs.Words.{between, words}
-use lib.ListN.{length, drop}
-use Prim.Native.Nat.{ℕ, _+_}
+-- `lines::six_words` meets its contract. Each call of `word_end` passes one word more (`Requests`): five, with a sixth up to the line's end, are six words;
+-- a line that ends sooner has fewer, and one that goes on has more. Assumes nothing.
 use mathlib.Core.List.{List, [], _∷_}
 use mathlib.Core.Path.{_≡_, refl}
+use Prim.Native.Nat.{ℕ, _+_}
 use native.Mathlib.Omega.{arith}
+use lib.ListN.{length, drop}
 use borrow.Author.Needs.{needs}
+use Rattle.words.specs.Words.{between, words}
+use Rattle.lines.proofs.Requests.{words-next, words-last, words-few, words-many}
 use Rattle.lines.proofs.six_words.Statement.{statement}
 use Rattle.lines.proofs.six_words.Tie as tie
-use Rattle.lines.proofs.six_words.Reads as reads
-use Rattle.lines.proofs.six_words.Lts as lts
-use Rattle.words.proofs.word_end.Reads as word-end-reads
 
--- the line, where each call of `word_end` stands
 abbrev line1 : tie.After-word-end → List ℕ
 line1 c = c .before .before .args .line .now
 
@@ -76,83 +73,66 @@ words5 : (c : tie.Else5) →
     ∷ words (drop (c .before .word-end5 .result + 1) l)
 words5 c = words-next (_ ∷ _ ∷ _ ∷ _ ∷ []) (line5 (c .before)) _ _ (words4 (c .before .before)) (c .before .word-end5 .ensures .0) (omega arith)
 
--- src/lib.rt:197:9
 word-end-requires : tie.Need-word-end-requires
 word-end-requires c κs = search needs
 
--- src/lib.rt:199:9
 returns : tie.Need-returns
-returns c = let l = line1 (c .before) in words-few [] l 0 _ refl (c .before .word-end .ensures .0) (omega arith) (c .if1 .taken)
+returns c = let l = line1 (c .before) in words-few [] l 0 _ refl (c .before .word-end .ensures .0) (omega arith) (omega arith)
 
--- src/lib.rt:201:28
 add-word-end : tie.Need-add-word-end
 add-word-end c = search needs
 
--- src/lib.rt:201:9
 word-end-requires-2 : tie.Need-word-end-requires-2
 word-end-requires-2 c κs = search needs
 
--- src/lib.rt:203:9
 returns-2 : tie.Need-returns-2
-returns-2 c = let d = c .before .before in words-few (_ ∷ []) (line1 (d .before)) _ _ (words1 d) (c .before .word-end2 .ensures .0) (omega arith) (c .if2 .taken)
+returns-2 c = let d = c .before .before in words-few (_ ∷ []) (line1 (d .before)) _ _ (words1 d) (c .before .word-end2 .ensures .0) (omega arith) (omega arith)
 
--- src/lib.rt:205:28
 add-word-end-2 : tie.Need-add-word-end-2
 add-word-end-2 c = search needs
 
--- src/lib.rt:205:9
 word-end-requires-3 : tie.Need-word-end-requires-3
 word-end-requires-3 c κs = search needs
 
--- src/lib.rt:207:9
 returns-3 : tie.Need-returns-3
-returns-3 c = let d = c .before .before in words-few (_ ∷ _ ∷ []) (line2 (d .before)) _ _ (words2 d) (c .before .word-end3 .ensures .0) (omega arith) (c .if3 .taken)
+returns-3 c = let d = c .before .before in words-few (_ ∷ _ ∷ []) (line2 (d .before)) _ _ (words2 d) (c .before .word-end3 .ensures .0) (omega arith) (omega arith)
 
--- src/lib.rt:209:28
 add-word-end-3 : tie.Need-add-word-end-3
 add-word-end-3 c = search needs
 
--- src/lib.rt:209:9
 word-end-requires-4 : tie.Need-word-end-requires-4
 word-end-requires-4 c κs = search needs
 
--- src/lib.rt:211:9
 returns-4 : tie.Need-returns-4
-returns-4 c = let d = c .before .before in words-few (_ ∷ _ ∷ _ ∷ []) (line3 (d .before)) _ _ (words3 d) (c .before .word-end4 .ensures .0) (omega arith) (c .if4 .taken)
+returns-4 c = let d = c .before .before in words-few (_ ∷ _ ∷ _ ∷ []) (line3 (d .before)) _ _ (words3 d) (c .before .word-end4 .ensures .0) (omega arith) (omega arith)
 
--- src/lib.rt:213:28
 add-word-end-4 : tie.Need-add-word-end-4
 add-word-end-4 c = search needs
 
--- src/lib.rt:213:9
 word-end-requires-5 : tie.Need-word-end-requires-5
 word-end-requires-5 c κs = search needs
 
--- src/lib.rt:215:9
 returns-5 : tie.Need-returns-5
-returns-5 c = let d = c .before .before in words-few (_ ∷ _ ∷ _ ∷ _ ∷ []) (line4 (d .before)) _ _ (words4 d) (c .before .word-end5 .ensures .0) (omega arith) (c .if5 .taken)
+returns-5 c = let d = c .before .before in words-few (_ ∷ _ ∷ _ ∷ _ ∷ []) (line4 (d .before)) _ _ (words4 d) (c .before .word-end5 .ensures .0) (omega arith) (omega arith)
 
--- src/lib.rt:217:23
 add-word-end-5 : tie.Need-add-word-end-5
 add-word-end-5 c = search needs
 
--- src/lib.rt:217:8
 word-end-requires-6 : tie.Need-word-end-requires-6
 word-end-requires-6 c κs = search needs
 
--- src/lib.rt:218:9
 returns-6 : tie.Need-returns-6
 returns-6 c = let d = c .before .before in
     let f = c .before .word-end6 in
-    words-many (_ ∷ _ ∷ _ ∷ _ ∷ _ ∷ []) (line5 (d .before)) _ _ (words5 d) (f .ensures .0) refl (below (f .ensures .1) (c .if6 .taken))
+    words-many (_ ∷ _ ∷ _ ∷ _ ∷ _ ∷ []) (line5 (d .before)) _ _ (words5 d) (f .ensures .0) refl (omega arith)
 
--- src/lib.rt:194:1
 returns-7 : tie.Need-returns-7
 returns-7 c = let d = c .before .before in
     let f = c .before .word-end6 in
     let l = line5 (d .before) in
-    let last = words-last (_ ∷ _ ∷ _ ∷ _ ∷ _ ∷ []) l _ _ (words5 d) (f .ensures .0) (c .if6 .left) in
-    (omega arith, omega arith, omega arith, omega arith, omega arith, rw (← c .if6 .left) last)
+    let e : f .result ≡ length l = omega arith in
+    let last = words-last (_ ∷ _ ∷ _ ∷ _ ∷ _ ∷ []) l _ _ (words5 d) (f .ensures .0) e in
+    (omega arith, omega arith, omega arith, omega arith, omega arith, rw (← e) last)
 
 pub six-words-spec : {M : Type 1} → statement M
 six-words-spec =

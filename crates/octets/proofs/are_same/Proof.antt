@@ -1,10 +1,10 @@
--- `octets::are_same` meets its contract. Lists of different lengths are not the same, nor are lists that differ in an octet.
+-- `octets::are_same` meets its contract. Lists of different lengths are not the same, nor are lists that differ in an octet, the last or another.
 -- The loop's invariant is what `skip` ensures: `i` is at most the length, and the first `i` octets are the same;
--- at the end those are the whole lists. The measure is what is left of the length. Assumes nothing.
-use mathlib.Core.Path.{_≡_, sym, ap}
+-- at the end those are the whole lists, as no octet is where the length is 0. The measure is what is left of the length. Assumes nothing.
+use mathlib.Core.Path.{_≡_, refl, sym, ap}
 use Prim.Native.Nat.{_≤_, _-_}
 use native.Mathlib.Omega.{arith}
-use lib.ListN.{length, take, getD}
+use lib.ListN.{length, take}
 use borrow.Author.Needs.{needs}
 use Rattle.lists.proofs.Orders.{same-eq, same-ne}
 use Rattle.octets.proofs.Orders.{take-next, take-whole}
@@ -12,28 +12,43 @@ use Rattle.octets.proofs.are_same.Statement.{statement}
 use Rattle.octets.proofs.are_same.Tie as tie
 
 abbrev Inv-loop : tie.InvT-loop
-Inv-loop a b n i₀ i = (i ≤ n) × (take i a ≡ take i b)
+Inv-loop a b n last i₀ i = (i ≤ n) × (take i a ≡ take i b)
 
 abbrev μ-loop : tie.MeasureT-loop
-μ-loop a b n i₀ i = n - i
+μ-loop a b n last i₀ i = n - i
 
 returns : tie.Need-returns Inv-loop μ-loop
 returns c = sym (same-ne _ _ (λ e. omega (arith, ap length e)))
 
+returns-2 : tie.Need-returns-2 Inv-loop μ-loop
+returns-2 c = sym (same-eq _ _ (take-whole _ _ 0 (omega arith) (omega arith) refl))
+
+sub-last : tie.Need-sub-last Inv-loop μ-loop
+sub-last c = search needs
+
+shared-slice-read-if3 : tie.Need-shared-slice-read-if3 Inv-loop μ-loop
+shared-slice-read-if3 c = search needs
+
+shared-slice-read-if3-2 : tie.Need-shared-slice-read-if3-2 Inv-loop μ-loop
+shared-slice-read-if3-2 c = search needs
+
+returns-3 : tie.Need-returns-3 Inv-loop μ-loop
+returns-3 c = sym (same-ne _ _ (λ e. c .if3 .taken (cc)))
+
 skip-requires : tie.Need-skip-requires Inv-loop μ-loop
-skip-requires c κs = search needs
+skip-requires c κs = (omega arith, (omega arith, (omega arith, refl)))
 
 loop-holds : tie.Need-loop-holds Inv-loop μ-loop
 loop-holds c = search needs
 
-shared-slice-read-if2 : tie.Need-shared-slice-read-if2 Inv-loop μ-loop
-shared-slice-read-if2 c = search needs
+shared-slice-read-if4 : tie.Need-shared-slice-read-if4 Inv-loop μ-loop
+shared-slice-read-if4 c = search needs
 
-shared-slice-read-if2-2 : tie.Need-shared-slice-read-if2-2 Inv-loop μ-loop
-shared-slice-read-if2-2 c = search needs
+shared-slice-read-if4-2 : tie.Need-shared-slice-read-if4-2 Inv-loop μ-loop
+shared-slice-read-if4-2 c = search needs
 
-returns-2 : tie.Need-returns-2 Inv-loop μ-loop
-returns-2 c = sym (same-ne _ _ (λ e. c .if2 .taken (ap (λ l. getD l (c .before .before .before .before .loop .i) 0) e)))
+returns-4 : tie.Need-returns-4 Inv-loop μ-loop
+returns-4 c = sym (same-ne _ _ (λ e. c .if4 .taken (cc)))
 
 add-i : tie.Need-add-i Inv-loop μ-loop
 add-i c = search needs
@@ -44,10 +59,10 @@ loop-less c = search needs
 loop-again : tie.Need-loop-again Inv-loop μ-loop
 loop-again c =
     let l = c .before .before .before .before .loop in
-    (omega arith, take-next _ _ (l .i) (omega arith) (omega arith) (l .inv .1) (c .if2 .left))
+    (omega arith, take-next _ _ (l .i) (omega arith) (omega arith) (l .inv .1) (c .if4 .left))
 
-returns-3 : tie.Need-returns-3 Inv-loop μ-loop
-returns-3 c =
+returns-5 : tie.Need-returns-5 Inv-loop μ-loop
+returns-5 c =
     let l = c .before .loop in
     sym (same-eq _ _ (take-whole _ _ (l .i) (omega arith) (omega arith) (l .inv .1)))
 
@@ -58,12 +73,17 @@ are-same-spec =
     Inv-loop
     μ-loop
     returns
+    returns-2
+    sub-last
+    shared-slice-read-if3
+    shared-slice-read-if3-2
+    returns-3
     skip-requires
     loop-holds
-    shared-slice-read-if2
-    shared-slice-read-if2-2
-    returns-2
+    shared-slice-read-if4
+    shared-slice-read-if4-2
+    returns-4
     add-i
     loop-less
     loop-again
-    returns-3)
+    returns-5)

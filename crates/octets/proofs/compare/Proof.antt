@@ -1,7 +1,7 @@
 -- `octets::compare` meets its contract. The loop's invariant: `i` is within both lists, and their first `i` octets are the same.
 -- So each answer is one law of `order` behind fronts that are the same: the octets at `i` differ, or one list ends at `i`, or both do.
 -- A turn that goes on has found one octet more the same. The measure is what is left of the first list. Assumes nothing.
-use mathlib.Core.Path.{_≡_, sym}
+use mathlib.Core.Path.{_≡_, refl, sym}
 use Prim.Native.Nat.{_≤_, _-_}
 use native.Mathlib.Omega.{arith}
 use lib.ListN.{length, take}
@@ -20,7 +20,7 @@ shorter-requires : tie.Need-shorter-requires Inv-loop μ-loop
 shorter-requires c κs = search needs
 
 skip-requires : tie.Need-skip-requires Inv-loop μ-loop
-skip-requires c κs = search needs
+skip-requires c κs = (omega arith, (omega arith, (omega arith, refl)))
 
 loop-holds : tie.Need-loop-holds Inv-loop μ-loop
 loop-holds c = search needs

@@ -1,4 +1,4 @@
--- `octets::skip` meets its contract. The loop begins where `skip_long` stopped, and its invariant is what that ensures: `i` is at most `n`,
+-- `octets::skip` meets its contract. The loop begins at `from`, and its invariant is what is required there: `i` is at most `n`,
 -- and the first `i` octets of both lists are the same. A turn that goes on has found eight octets more the same.
 -- The measure is what is left of `n`. Assumes nothing.
 use mathlib.Core.Path.{_≡_, sym, _∙_}
@@ -12,13 +12,10 @@ use Rattle.octets.proofs.skip.Statement.{statement}
 use Rattle.octets.proofs.skip.Tie as tie
 
 abbrev Inv-loop : tie.InvT-loop
-Inv-loop a b n i₀ i = (i ≤ n) × (take i a ≡ take i b)
+Inv-loop a b from n i₀ i = (i ≤ n) × (take i a ≡ take i b)
 
 abbrev μ-loop : tie.MeasureT-loop
-μ-loop a b n i₀ i = n - i
-
-skip-long-requires : tie.Need-skip-long-requires Inv-loop μ-loop
-skip-long-requires c κs = search needs
+μ-loop a b from n i₀ i = n - i
 
 loop-holds : tie.Need-loop-holds Inv-loop μ-loop
 loop-holds c = search needs
@@ -49,16 +46,4 @@ returns-2 c = search needs
 
 pub skip-spec : {M : Type 1} → statement M
 skip-spec =
-    tie.close
-    (tie.spec
-    Inv-loop
-    μ-loop
-    skip-long-requires
-    loop-holds
-    sub-loop
-    same-eight-requires
-    returns
-    add-i
-    loop-less
-    loop-again
-    returns-2)
+    tie.close (tie.spec Inv-loop μ-loop loop-holds sub-loop same-eight-requires returns add-i loop-less loop-again returns-2)

@@ -1,4 +1,5 @@
--- `procedure::is_below` meets its contract. The loop's invariant speaks of what is left: `k` is 4 * `i`, and the subtree agrees with the variable
+-- `procedure::is_below` meets its contract. A last part that differs where its bit is 1 disagrees (`agrees-part`); otherwise it is met again in the loop.
+-- The loop's invariant speaks of what is left: `k` is 4 * `i`, and the subtree agrees with the variable
 -- as what is left of the two from `k` on does from bit `i` on. It holds of the bytes that `skip` found the same; a turn passes one number; at the end
 -- nothing is left of the subtree. The measure is what is left of its length. Assumes nothing.
 use mathlib.Core.Path.{_≡_, refl, sym, _∙_}
@@ -10,7 +11,7 @@ use borrow.Author.Needs.{needs}
 use borrow.Author.Tests.{not-true, not-false}
 use Rattle.procedure.specs.Decision.{agrees}
 use Rattle.procedure.specs.Bytes.{identifier}
-use Rattle.procedure.proofs.Identifiers.{length-identifier, agrees-short, agrees-end, agrees-same, agrees-masked, agrees-differ, agrees-skip}
+use Rattle.procedure.proofs.Identifiers.{length-identifier, agrees-short, agrees-end, agrees-same, agrees-masked, agrees-differ, agrees-skip, agrees-part}
 use Rattle.procedure.proofs.is_below.Statement.{statement}
 use Rattle.procedure.proofs.is_below.Tie as tie
 
@@ -26,17 +27,6 @@ returns c =
     let s = c .before .before .before .before in
     sym (agrees-short _ 0 _ _ (omega (arith, length-identifier (s .args .subtree .now), length-identifier (s .args .variable .now))))
 
-skip-requires : tie.Need-skip-requires Inv-loop μ-loop
-skip-requires c κs = search needs
-
-mul-k : tie.Need-mul-k Inv-loop μ-loop
-mul-k c = omega arith
-
-loop-holds : tie.Need-loop-holds Inv-loop μ-loop
-loop-holds c =
-    let f = c .skip in
-    (refl, agrees-skip _ _ _ (f .result) (omega arith) (omega arith) (f .ensures .1))
-
 same-word-requires : tie.Need-same-word-requires Inv-loop μ-loop
 same-word-requires c κs = search needs
 
@@ -46,9 +36,32 @@ mask-bit-requires c κs = search needs
 returns-2 : tie.Need-returns-2 Inv-loop μ-loop
 returns-2 c =
     let t = c .before .before .before in
+    let d = sym (t .same-word .ensures) ∙ not-true _ (c .before .before .if3 .taken) in
+    sym (agrees-part _ _ _ _ (omega arith) (omega arith) (omega arith) d (sym (c .before .mask-bit .ensures) ∙ c .if4 .taken))
+
+skip-requires : tie.Need-skip-requires Inv-loop μ-loop
+skip-requires c κs = (omega arith, (omega arith, (omega arith, refl)))
+
+mul-k : tie.Need-mul-k Inv-loop μ-loop
+mul-k c = omega arith
+
+loop-holds : tie.Need-loop-holds Inv-loop μ-loop
+loop-holds c =
+    let f = c .skip in
+    (refl, agrees-skip _ _ _ (f .result) (omega arith) (omega arith) (f .ensures .1))
+
+same-word-requires-2 : tie.Need-same-word-requires-2 Inv-loop μ-loop
+same-word-requires-2 c κs = search needs
+
+mask-bit-requires-2 : tie.Need-mask-bit-requires-2 Inv-loop μ-loop
+mask-bit-requires-2 c κs = search needs
+
+returns-3 : tie.Need-returns-3 Inv-loop μ-loop
+returns-3 c =
+    let t = c .before .before .before in
     let l = t .before .before .loop in
-    let d = sym (t .same-word .ensures) ∙ not-true _ (c .before .before .if2 .taken) in
-    sym (l .inv .1 ∙ agrees-differ _ _ _ (l .i) (l .k) (omega arith) (omega arith) d (sym (c .before .mask-bit .ensures) ∙ c .if3 .taken))
+    let d = sym (t .same-word2 .ensures) ∙ not-true _ (c .before .before .if5 .taken) in
+    sym (l .inv .1 ∙ agrees-differ _ _ _ (l .i) (l .k) (omega arith) (omega arith) d (sym (c .before .mask-bit2 .ensures) ∙ c .if6 .taken))
 
 add-i : tie.Need-add-i Inv-loop μ-loop
 add-i c = search needs
@@ -65,12 +78,12 @@ loop-again c =
       omega arith,
       l .inv .1 ∙ ⊎-elim
           (λ w. agrees-masked _ _ _ (l .i) (l .k) (omega arith) (omega arith) (sym (w .1 .ensures) ∙ w .2 .left))
-          (λ w. agrees-same _ _ _ (l .i) (l .k) (omega arith) (omega arith) (sym (c .before .same-word .ensures) ∙ not-false _ (w .left)))
-          (c .if2 .came),
+          (λ w. agrees-same _ _ _ (l .i) (l .k) (omega arith) (omega arith) (sym (c .before .same-word2 .ensures) ∙ not-false _ (w .left)))
+          (c .if5 .came),
     )
 
-returns-3 : tie.Need-returns-3 Inv-loop μ-loop
-returns-3 c =
+returns-4 : tie.Need-returns-4 Inv-loop μ-loop
+returns-4 c =
     let l = c .before .loop in
     sym (l .inv .1 ∙ agrees-end _ _ _ (l .i) (l .k) (omega arith))
 
@@ -81,14 +94,17 @@ is-below-spec =
     Inv-loop
     μ-loop
     returns
-    skip-requires
-    mul-k
-    loop-holds
     same-word-requires
     mask-bit-requires
     returns-2
+    skip-requires
+    mul-k
+    loop-holds
+    same-word-requires-2
+    mask-bit-requires-2
+    returns-3
     add-i
     add-k
     loop-less
     loop-again
-    returns-3)
+    returns-4)

@@ -1,15 +1,13 @@
-use Rattle.lines.specs.Lines.{Ready}
-use lib.ListN.{length}
-use Prim.Native.Nat.{_+_, _-_, _≤_}
+-- `tryreq::answer_piece` meets its contract. The loop's invariant: what is held is of one line, nothing is left to be written, and the line number has grown
+-- by no more than the octets read. The measure is what is left of the piece. Assumes nothing.
 use mathlib.Core.Path.{_≡_, refl, _∙_}
-use borrow.Author.Needs.{needs}
+use Prim.Native.Nat.{_+_, _-_, _≤_}
 use native.Mathlib.Omega.{arith}
+use lib.ListN.{length}
+use borrow.Author.Needs.{needs}
+use Rattle.lines.specs.Lines.{Ready}
 use Rattle.tryreq.proofs.answer_piece.Statement.{statement}
 use Rattle.tryreq.proofs.answer_piece.Tie as tie
-use Rattle.tryreq.proofs.answer_piece.Reads as reads
-use Rattle.tryreq.proofs.answer_piece.Lts as lts
-use Rattle.io.proofs.write_all.Reads as write-all-reads
-use Rattle.lines.proofs.answer_lines.Reads as answer-lines-reads
 
 abbrev Inv-loop : tie.InvT-loop
 Inv-loop image l piece number held line₀ out₀ p₀ line out p = Ready p line piece out × (p .used ≡ 0) × (p .number + (length piece - p .at) ≤ number + length piece) × (length line ≡ length line₀) × (length out ≡ length out₀)
@@ -17,7 +15,6 @@ Inv-loop image l piece number held line₀ out₀ p₀ line out p = Ready p line
 abbrev μ-loop : tie.MeasureT-loop
 μ-loop image l piece number held line₀ out₀ p₀ line out p = length piece - p .at
 
--- src/main.rt:56:5
 loop-holds : tie.Need-loop-holds Inv-loop μ-loop
 loop-holds c = let s = c .before .before .before .before in (
   record {
@@ -33,33 +30,29 @@ loop-holds c = let s = c .before .before .before .before in (
   refl,
 )
 
--- src/main.rt:57:9
 answer-lines-requires : tie.Need-answer-lines-requires Inv-loop μ-loop
 answer-lines-requires c κs = let i = c .before .before .before .before .loop .inv in let s = c .before .before .before .before .before .before .before .before .before in (s .pre .0, (i .0, omega (arith, i .2, s .pre .1 .1)))
 
--- src/main.rt:59:38
 sub-write-all : tie.Need-sub-write-all Inv-loop μ-loop
 sub-write-all c = search needs
 
--- src/main.rt:59:38
 part-write-all-start : tie.Need-part-write-all-start Inv-loop μ-loop
 part-write-all-start c = search needs
 
--- src/main.rt:59:38
 part-write-all-end : tie.Need-part-write-all-end Inv-loop μ-loop
 part-write-all-end c = c .before .before .before .before .before .answer-lines .ensures .0 .ready .used-in
 
--- src/main.rt:59:9
 write-all-requires : tie.Need-write-all-requires Inv-loop μ-loop
 write-all-requires c κs = search needs
 
--- src/main.rt:56:5
 loop-less : tie.Need-loop-less Inv-loop μ-loop
-loop-less c = let i = c .before .before .before .before .before .before .before .before .before .before .before .before .loop .inv in
-    let d = c .before .before .before .before .before .before .before .answer-lines in
-    omega (arith, d .ensures .1 .0 (c .before .before .before .before .before .before .before .before .before .before .if1 .taken) (omega (arith, i .1, i .4, c .before .before .before .before .before .before .before .before .before .before .before .before .before .before .before .before .before .pre .1 .1)), c .before .before .before .before .before .before .before .before .before .before .if1 .taken)
+loop-less c =
+    let d = c .before .before .before .before .before .before .before in
+    let t = d .before .before .before in
+    let l = t .before .before in
+    let i = l .loop .inv in
+    omega (arith, d .answer-lines .ensures .1 .0 (t .if1 .taken) (omega (arith, i .1, i .4, l .before .before .before .before .before .pre .1 .1)), t .if1 .taken)
 
--- src/main.rt:56:5
 loop-again : tie.Need-loop-again Inv-loop μ-loop
 loop-again c = let i = c .before .before .before .before .before .before .before .before .before .before .before .before .loop .inv in
     let d = c .before .before .before .before .before .before .before .answer-lines in
@@ -71,15 +64,12 @@ loop-again c = let i = c .before .before .before .before .before .before .before
       d .kept .1 .1 .1 .1 .1 .0 ∙ i .4,
     )
 
--- src/main.rt:36:1
 same-length : tie.Need-same-length Inv-loop μ-loop
 same-length c = c .before .before .loop .inv .3
 
--- src/main.rt:36:1
 same-length-2 : tie.Need-same-length-2 Inv-loop μ-loop
 same-length-2 c = c .before .before .loop .inv .4
 
--- src/main.rt:36:1
 returns : tie.Need-returns Inv-loop μ-loop
 returns c = let i = c .before .before .loop .inv in (omega (arith, i .0 .room, i .0 .held-in), i .0 .one-line, omega (arith, i .2))
 

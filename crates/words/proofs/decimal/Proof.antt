@@ -1,14 +1,13 @@
-use Rattle.words.proofs.Words.{Reading, decimal-empty, reading-start, reading-end, reading-low, reading-high, reading-large, reading-next}
-use lib.ListN.{length, drop}
+-- `words::decimal` meets its contract. The loop's invariant: the digits passed say `n`, which is below 2^32, and the rest goes on from it (`Words`).
+-- A number that gets too large stays so, whatever follows. The measure is how many digits are left. Assumes nothing.
 use mathlib.Core.Path.{sym}
-use Prim.Native.Nat.{_+_, _-_, _≤_}
-use borrow.Author.Needs.{needs}
+use Prim.Native.Nat.{_-_}
 use native.Mathlib.Omega.{arith}
+use lib.ListN.{length}
+use borrow.Author.Needs.{needs}
+use Rattle.words.proofs.Words.{Reading, decimal-empty, reading-start, reading-end, reading-low, reading-high, reading-large, reading-next}
 use Rattle.words.proofs.decimal.Statement.{statement}
 use Rattle.words.proofs.decimal.Tie as tie
-use Rattle.words.proofs.decimal.Reads as reads
-use Rattle.words.proofs.decimal.Lts as lts
-use Rattle.words.proofs.wide.Reads as wide-reads
 
 abbrev Inv-loop : tie.InvT-loop
 Inv-loop word n₀ i₀ n i = Reading word i n
@@ -16,66 +15,52 @@ Inv-loop word n₀ i₀ n i = Reading word i n
 abbrev μ-loop : tie.MeasureT-loop
 μ-loop word n₀ i₀ n i = length word - i
 
--- src/lib.rt:63:9
 returns : tie.Need-returns Inv-loop μ-loop
 returns c = sym (decimal-empty _ (c .if1 .taken))
 
--- src/lib.rt:67:5
 loop-holds : tie.Need-loop-holds Inv-loop μ-loop
 loop-holds c = reading-start _ (omega arith)
 
--- src/lib.rt:68:22
 shared-slice-read-wide : tie.Need-shared-slice-read-wide Inv-loop μ-loop
 shared-slice-read-wide c = search needs
 
--- src/lib.rt:68:13
 wide-requires : tie.Need-wide-requires Inv-loop μ-loop
 wide-requires c κs = search needs
 
--- src/lib.rt:70:13
 returns-2 : tie.Need-returns-2 Inv-loop μ-loop
 returns-2 c = let a = c .before in
     sym (reading-low (a .before .before .before .loop .inv) (a .before .before .loop-test .taken) _ (a .wide .ensures .0) (c .if2 .taken))
 
--- src/lib.rt:73:13
 returns-3 : tie.Need-returns-3 Inv-loop μ-loop
 returns-3 c = let a = c .before .before in
     sym (reading-high (a .before .before .before .loop .inv) (a .before .before .loop-test .taken) _ (a .wide .ensures .0) (c .if3 .taken))
 
--- src/lib.rt:75:13
 mul-n : tie.Need-mul-n Inv-loop μ-loop
 mul-n c = search needs
 
--- src/lib.rt:75:13
 add-n : tie.Need-add-n Inv-loop μ-loop
 add-n c = omega (arith, c .before .before .wide .ensures .1)
 
--- src/lib.rt:78:13
 returns-4 : tie.Need-returns-4 Inv-loop μ-loop
 returns-4 c = let a = c .before .before .before in
     sym
     (reading-large (a .before .before .before .loop .inv) (a .before .before .loop-test .taken) _ (a .wide .ensures .0) (c .before .before .if2 .left) (c .before .if3 .left)
-    (c .if4 .taken))
+    (omega arith))
 
--- src/lib.rt:80:9
 add-i : tie.Need-add-i Inv-loop μ-loop
 add-i c = search needs
 
--- src/lib.rt:67:5
 loop-less : tie.Need-loop-less Inv-loop μ-loop
 loop-less c = search needs
 
--- src/lib.rt:67:5
 loop-again : tie.Need-loop-again Inv-loop μ-loop
 loop-again c = let a = c .before .before .before in
     reading-next (a .before .before .before .loop .inv) (a .before .before .loop-test .taken) _ (a .wide .ensures .0) (c .before .before .if2 .left) (c .before .if3 .left)
-    (c .if4 .left)
+    (omega arith)
 
--- src/lib.rt:82:16
 cast-t13 : tie.Need-cast-t13 Inv-loop μ-loop
 cast-t13 c = search needs
 
--- src/lib.rt:59:1
 returns-5 : tie.Need-returns-5 Inv-loop μ-loop
 returns-5 c = sym (reading-end (c .before .loop .inv) (c .loop-test .left))
 

@@ -1,18 +1,15 @@
-use borrow.Author.Tests.{not-true}
-use Rattle.words.proofs.Words.{Reads, reads-start, reads-next, reads-none, reads-bad, reads-end, hex-empty, hex-dash, hex-some, pairs-odd, pairs-next, pairs-end, joined-below, number-is, number-bad}
-use Rattle.words.specs.Words.{hexDigit, joined, hexPairs, hexOctets}
-use lib.ListN.{length, drop, getD, length-set}
-use Prim.Native.Nat.{_+_, _-_, _*_, _≤_, _<_}
+-- `words::hex_octets` meets its contract. The loop's invariant: the octets at the buffer's front and those that the rest says make all of them (`Reads`).
+-- An octet has two digits, so there is room for each. The measure is how many digits are left. Assumes nothing.
 use mathlib.Core.Option.{some}
 use mathlib.Core.Path.{_≡_, refl, sym, _∙_}
-use borrow.Author.Needs.{needs}
+use Prim.Native.Nat.{_+_, _-_, _*_, _≤_, _<_}
 use native.Mathlib.Omega.{arith}
+use lib.ListN.{length, drop, getD, length-set}
+use borrow.Author.Needs.{needs}
+use Rattle.words.specs.Words.{hexDigit, joined, hexPairs, hexOctets}
+use Rattle.words.proofs.Words.{Reads, reads-start, reads-next, reads-none, reads-bad, reads-end, hex-empty, hex-dash, hex-some, pairs-odd, pairs-next, pairs-end, joined-below, number-is, number-bad}
 use Rattle.words.proofs.hex_octets.Statement.{statement}
 use Rattle.words.proofs.hex_octets.Tie as tie
-use Rattle.words.proofs.hex_octets.Reads as reads
-use Rattle.words.proofs.hex_octets.Lts as lts
-use Rattle.words.proofs.hex_pair.Reads as hex-pair-reads
-use Rattle.words.proofs.is_dash.Reads as is-dash-reads
 
 abbrev Inv-loop : tie.InvT-loop
 Inv-loop word out₀ i₀ n₀ out i n = (i ≡ 2 * n) × (i ≤ length word) × (length out ≡ length out₀) × Reads (hexPairs word) out n (hexPairs (drop i word))
@@ -31,60 +28,46 @@ octet : (c : tie.After-known-told Inv-loop μ-loop) →
     joined (hexDigit (getD w (l .loop .i) 0)) (hexDigit (getD w (l .loop .i + 1) 0)) ≡ some (c .before .x .given .0 .0)
 octet c = number-is _ (c .before .x .given .1) (c .before .before .before .hex-pair .ensures)
 
--- src/lib.rt:127:9
 returns : tie.Need-returns Inv-loop μ-loop
 returns c = hex-empty _ _ (c .if1 .taken)
 
--- src/lib.rt:129:8
 is-dash-requires : tie.Need-is-dash-requires Inv-loop μ-loop
 is-dash-requires c κs = search needs
 
--- src/lib.rt:130:9
 returns-2 : tie.Need-returns-2 Inv-loop μ-loop
 returns-2 c = hex-dash _ _ (sym (c .before .is-dash .ensures) ∙ c .if2 .taken)
 
--- src/lib.rt:134:5
 loop-holds : tie.Need-loop-holds Inv-loop μ-loop
 loop-holds c = (omega arith, omega arith, refl, reads-start _ _)
 
--- src/lib.rt:135:17
 add-j : tie.Need-add-j Inv-loop μ-loop
 add-j c = search needs
 
--- src/lib.rt:137:13
 same-length : tie.Need-same-length Inv-loop μ-loop
 same-length c = c .before .before .loop .inv .2
 
--- src/lib.rt:137:13
 returns-3 : tie.Need-returns-3 Inv-loop μ-loop
 returns-3 c = let l = c .before .before .loop in
     rw (paired (c .before .before .before)) (reads-none (l .inv .3) (pairs-odd _ (l .i) (c .if3 .taken)))
 
--- src/lib.rt:139:38
 shared-slice-read-hex-pair : tie.Need-shared-slice-read-hex-pair Inv-loop μ-loop
 shared-slice-read-hex-pair c = search needs
 
--- src/lib.rt:139:47
 shared-slice-read-hex-pair-2 : tie.Need-shared-slice-read-hex-pair-2 Inv-loop μ-loop
 shared-slice-read-hex-pair-2 c = search needs
 
--- src/lib.rt:139:29
 hex-pair-requires : tie.Need-hex-pair-requires Inv-loop μ-loop
 hex-pair-requires c κs = search needs
 
--- src/lib.rt:139:24
 enum-known-x : tie.Need-enum-known-x Inv-loop μ-loop
 enum-known-x c = search needs
 
--- src/lib.rt:140:13
 enum-told : tie.Need-enum-told Inv-loop μ-loop
 enum-told c = search needs
 
--- src/lib.rt:140:13
 same-length-2 : tie.Need-same-length-2 Inv-loop μ-loop
 same-length-2 c = c .before .before .before .before .before .before .before .loop .inv .2
 
--- src/lib.rt:140:13
 returns-4 : tie.Need-returns-4 Inv-loop μ-loop
 returns-4 c = let a = c .before .before in
     let f = a .before .before .before in
@@ -92,27 +75,21 @@ returns-4 c = let a = c .before .before in
     let e = number-bad (c .enum-told .given .1) (a .hex-pair .ensures) in
     rw (paired (f .before .before .before)) (reads-bad (l .inv .3) _ _ (pairs-next _ (l .i) (omega arith)) e)
 
--- src/lib.rt:142:18
 cast-out : tie.Need-cast-out Inv-loop μ-loop
 cast-out c = omega (arith, joined-below _ _ _ (octet c))
 
--- src/lib.rt:142:9
 slice-write-out : tie.Need-slice-write-out Inv-loop μ-loop
 slice-write-out c = search needs
 
--- src/lib.rt:143:9
 add-n : tie.Need-add-n Inv-loop μ-loop
 add-n c = search needs
 
--- src/lib.rt:144:13
 add-i : tie.Need-add-i Inv-loop μ-loop
 add-i c = search needs
 
--- src/lib.rt:134:5
 loop-less : tie.Need-loop-less Inv-loop μ-loop
 loop-less c = search needs
 
--- src/lib.rt:134:5
 loop-again : tie.Need-loop-again Inv-loop μ-loop
 loop-again c = let f = c .before .before .before .before .before .before in
     let l = f .before .before .loop in
@@ -120,11 +97,9 @@ loop-again c = let f = c .before .before .before .before .before .before in
     let r = reads-next (l .inv .3) _ _ (pairs-next _ (l .i) (omega arith)) (octet c) h in
     (omega arith, omega arith, length-set (l .out) (l .n) _ ∙ l .inv .2, r)
 
--- src/lib.rt:122:1
 same-length-3 : tie.Need-same-length-3 Inv-loop μ-loop
 same-length-3 c = c .before .loop .inv .2
 
--- src/lib.rt:122:1
 returns-5 : tie.Need-returns-5 Inv-loop μ-loop
 returns-5 c = let l = c .before .loop in
     rw (paired (c .before .before)) (reads-end (l .inv .3) (pairs-end _ (l .i) (c .loop-test .left)))

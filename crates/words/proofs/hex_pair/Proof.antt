@@ -1,63 +1,49 @@
-use Rattle.words.proofs.Words.{hex-below, number-is, number-bad}
-use Rattle.words.specs.Words.{hexDigit}
+-- `words::hex_pair` meets its contract: both digits say something below 16, or there is no octet. Assumes nothing.
 use mathlib.Core.Option.{some}
 use mathlib.Core.Path.{_≡_, sym}
 use native.Mathlib.Omega.{arith}
 use borrow.Author.Needs.{needs}
+use Rattle.words.specs.Words.{hexDigit}
+use Rattle.words.proofs.Words.{hex-below, number-is, number-bad}
 use Rattle.words.proofs.hex_pair.Statement.{statement}
 use Rattle.words.proofs.hex_pair.Tie as tie
-use Rattle.words.proofs.hex_pair.Reads as reads
-use Rattle.words.proofs.hex_pair.Lts as lts
-use Rattle.words.proofs.hex_digit.Reads as hex-digit-reads
 
--- what the two digits say
 high : (c : tie.After-known-told) → hexDigit (c .before .before .before .before .args .a) ≡ some (c .before .h .given .0 .0)
 high c = number-is _ (c .before .h .given .1) (c .before .before .before .hex-digit .ensures)
 
 low : (c : tie.After-known-told2) → hexDigit (c .before .before .before .before .before .before .before .before .args .b) ≡ some (c .before .l .given .0 .0)
 low c = number-is _ (c .before .l .given .1) (c .before .before .before .hex-digit2 .ensures)
 
--- src/lib.rt:113:25
 hex-digit-requires : tie.Need-hex-digit-requires
 hex-digit-requires c κs = search needs
 
--- src/lib.rt:113:20
 enum-known-h : tie.Need-enum-known-h
 enum-known-h c = search needs
 
--- src/lib.rt:114:9
 enum-told : tie.Need-enum-told
 enum-told c = search needs
 
--- src/lib.rt:114:9
 returns : tie.Need-returns
 returns c = let e = number-bad (c .enum-told .given .1) (c .before .before .hex-digit .ensures) in sym (rw e)
 
--- src/lib.rt:116:25
 hex-digit-requires-2 : tie.Need-hex-digit-requires-2
 hex-digit-requires-2 c κs = search needs
 
--- src/lib.rt:116:20
 enum-known-l : tie.Need-enum-known-l
 enum-known-l c = search needs
 
--- src/lib.rt:117:9
 enum-told-2 : tie.Need-enum-told-2
 enum-told-2 c = search needs
 
--- src/lib.rt:117:9
 returns-2 : tie.Need-returns-2
 returns-2 c = let e = number-bad (c .enum-told2 .given .1) (c .before .before .hex-digit2 .ensures) in sym (rw (high (c .before .before .before), e))
 
--- src/lib.rt:119:16
 mul-t7 : tie.Need-mul-t7
-mul-t7 c = omega (arith, hex-below _ _ (high (c .before .before .before .before)))
+mul-t7 c = omega (arith, hex-below _ _ (high (c .before .before .before .before)), hex-below _ _ (low c))
 
--- src/lib.rt:119:16
 add-t8 : tie.Need-add-t8
 add-t8 c = omega (arith, hex-below _ _ (high (c .before .before .before .before)), hex-below _ _ (low c))
 
--- src/lib.rt:110:1
 returns-3 : tie.Need-returns-3
 returns-3 c = sym (rw (high (c .before .before .before .before), low c))
 

@@ -1,20 +1,15 @@
-use Rattle.words.proofs.Words.{dash-one, dash-other}
-use native.Mathlib.Omega.{arith}
+-- `words::is_dash` meets its contract: one octet is `-` or is not, and another number of octets is not. Assumes nothing.
 use borrow.Author.Needs.{needs}
+use Rattle.words.proofs.Words.{dash-one, dash-other}
 use Rattle.words.proofs.is_dash.Statement.{statement}
 use Rattle.words.proofs.is_dash.Tie as tie
-use Rattle.words.proofs.is_dash.Reads as reads
-use Rattle.words.proofs.is_dash.Lts as lts
 
--- src/lib.rt:89:16
 shared-slice-read-result : tie.Need-shared-slice-read-result
 shared-slice-read-result c = search needs
 
--- src/lib.rt:89:9
 returns : tie.Need-returns
 returns c = dash-one _ (c .before .if1 .taken)
 
--- src/lib.rt:85:1
 returns-2 : tie.Need-returns-2
 returns-2 c = dash-other _ (c .if1 .left)
 

@@ -1,0 +1,122 @@
+-- `octets::ascends` meets its contract. `n` is the shorter length. The loop's invariant is what `skip` ensures: `i` is at most `n`, and the
+-- first `i` octets are the same; four more are looked at as numbers. So the octets at `i` decide where they differ, and at the end the lengths do.
+-- The measure is what is left of `n`. Assumes nothing.
+use mathlib.Core.Path.{_≡_, sym, _∙_}
+use mathlib.Core.Logic.{⊎-elim}
+use Prim.Native.Nat.{_≤_, _-_}
+use native.Mathlib.Omega.{arith}
+use lib.ListN.{take}
+use borrow.Author.Needs.{needs}
+use Rattle.octets.proofs.Orders.{take-next, take-four, before-differ, before-four, before-ends}
+use Rattle.octets.proofs.ascends.Statement.{statement}
+use Rattle.octets.proofs.ascends.Tie as tie
+
+abbrev Inv-loop : tie.InvT-loop
+Inv-loop a b n i₀ i = (i ≤ n) × (take i a ≡ take i b)
+
+abbrev μ-loop : tie.MeasureT-loop
+μ-loop a b n i₀ i = n - i
+
+shorter-requires : tie.Need-shorter-requires Inv-loop μ-loop
+shorter-requires c κs = search needs
+
+skip-long-requires : tie.Need-skip-long-requires Inv-loop μ-loop
+skip-long-requires c κs = search needs
+
+skip-requires : tie.Need-skip-requires Inv-loop μ-loop
+skip-requires c κs =
+    let e = c .skip-long .ensures in
+    (omega arith, (omega arith, (omega arith, e .1)))
+
+sub-if1 : tie.Need-sub-if1 Inv-loop μ-loop
+sub-if1 c = search needs
+
+four-at-requires : tie.Need-four-at-requires Inv-loop μ-loop
+four-at-requires c κs = search needs
+
+four-at-requires-2 : tie.Need-four-at-requires-2 Inv-loop μ-loop
+four-at-requires-2 c κs = search needs
+
+returns : tie.Need-returns Inv-loop μ-loop
+returns c =
+    let y = c .before in
+    let x = y .before in
+    let f = x .before .before in
+    let k = f .before .before .before in
+    let e = x .four-at .ensures in
+    let g = y .four-at2 .ensures in
+    rw (e, g)
+    (sym
+    (before-four _ _ (f .skip .result) (f .skip .ensures .1) (omega arith) (omega arith)
+    (λ i. omega (arith, k .before .shared-slice-known .given i))
+    (λ i. omega (arith, k .shared-slice-known2 .given i))
+    (λ q. c .if2 .taken (e ∙ q ∙ sym g))))
+
+add-i : tie.Need-add-i Inv-loop μ-loop
+add-i c = search needs
+
+loop-holds : tie.Need-loop-holds Inv-loop μ-loop
+loop-holds c =
+    let f = c .before in
+    let k = f .before .before .before in
+    ⊎-elim
+    (λ u.
+    rw (u .4) (
+      omega arith,
+      take-four _ _ (f .skip .result) (f .skip .ensures .1) (omega arith) (omega arith)
+          (λ i. omega (arith, k .before .shared-slice-known .given i))
+          (λ i. omega (arith, k .shared-slice-known2 .given i))
+          (sym (u .1 .ensures) ∙ u .3 .left ∙ u .2 .ensures),
+    ))
+    (λ u. rw (u .1) (f .skip .ensures))
+    (c .if1 .came)
+
+shared-slice-read-x : tie.Need-shared-slice-read-x Inv-loop μ-loop
+shared-slice-read-x c = search needs
+
+shared-slice-read-y : tie.Need-shared-slice-read-y Inv-loop μ-loop
+shared-slice-read-y c = search needs
+
+returns-2 : tie.Need-returns-2 Inv-loop μ-loop
+returns-2 c =
+    let l = c .before .before .before .before .loop in
+    sym (before-differ _ _ (l .i) (l .inv .1) (omega arith) (omega arith) (c .if3 .taken))
+
+add-i-2 : tie.Need-add-i-2 Inv-loop μ-loop
+add-i-2 c = search needs
+
+loop-less : tie.Need-loop-less Inv-loop μ-loop
+loop-less c = search needs
+
+loop-again : tie.Need-loop-again Inv-loop μ-loop
+loop-again c =
+    let l = c .before .before .before .before .before .loop in
+    (omega arith, take-next _ _ (l .i) (omega arith) (omega arith) (l .inv .1) (c .before .if3 .left))
+
+returns-3 : tie.Need-returns-3 Inv-loop μ-loop
+returns-3 c =
+    let l = c .before .loop in
+    sym (before-ends _ _ (l .i) (l .inv .1) (omega arith))
+
+pub ascends-spec : {M : Type 1} → statement M
+ascends-spec =
+    tie.close
+    (tie.spec
+    Inv-loop
+    μ-loop
+    shorter-requires
+    skip-long-requires
+    skip-requires
+    sub-if1
+    four-at-requires
+    four-at-requires-2
+    returns
+    add-i
+    loop-holds
+    shared-slice-read-x
+    shared-slice-read-y
+    returns-2
+    add-i-2
+    loop-less
+    loop-again
+    returns-3)

@@ -1,0 +1,45 @@
+-- `rows::context_end` meets its contract: 0 tells nothing, and past the tests the row is legal (`Legal`). Assumes nothing.
+use mathlib.Core.Path.{refl}
+use mathlib.Core.Logic.{inl, inr}
+use borrow.Author.Needs.{needs}
+use borrow.Author.Tests.{not-false}
+use Rattle.rows.proofs.Legal.{joined, context-legal}
+use Rattle.rows.proofs.context_end.Statement.{statement}
+use Rattle.rows.proofs.context_end.Tie as tie
+
+returns : tie.Need-returns
+returns c = inl refl
+
+shared-slice-read-wide : tie.Need-shared-slice-read-wide
+shared-slice-read-wide c = search needs
+
+wide-requires : tie.Need-wide-requires
+wide-requires c κs = search needs
+
+add-if2 : tie.Need-add-if2
+add-if2 c = search needs
+
+within-requires : tie.Need-within-requires
+within-requires c κs = search needs
+
+returns-2 : tie.Need-returns-2
+returns-2 c = inl refl
+
+returns-3 : tie.Need-returns-3
+unfolding joined
+returns-3 c =
+    let i = c .before in
+    let x = i .before in
+    inr (context-legal (x .before .before .before .before .args .row .now) _ (x .wide .ensures .0) (rw (← i .within .ensures) (not-false _ (c .if2 .left))))
+
+pub context-end-spec : {M : Type 1} → statement M
+context-end-spec =
+    tie.close
+    (tie.spec
+    returns
+    shared-slice-read-wide
+    wide-requires
+    add-if2
+    within-requires
+    returns-2
+    returns-3)

@@ -1,0 +1,95 @@
+-- `rows::mapping_end` meets its contract: 0 tells nothing, and past the tests the row is legal (`Legal`). Assumes nothing.
+use mathlib.Core.Path.{refl}
+use mathlib.Core.Logic.{inl, inr}
+use borrow.Author.Needs.{needs}
+use borrow.Author.Tests.{not-false}
+use Rattle.rows.proofs.Legal.{joined, mapping-legal}
+use Rattle.rows.proofs.mapping_end.Statement.{statement}
+use Rattle.rows.proofs.mapping_end.Tie as tie
+
+returns : tie.Need-returns
+returns c = inl refl
+
+word-at-requires : tie.Need-word-at-requires
+word-at-requires c κs = search needs
+
+shared-slice-read-wide : tie.Need-shared-slice-read-wide
+shared-slice-read-wide c = search needs
+
+wide-requires : tie.Need-wide-requires
+wide-requires c κs = search needs
+
+add-a : tie.Need-add-a
+add-a c = search needs
+
+add-if2 : tie.Need-add-if2
+add-if2 c = search needs
+
+returns-2 : tie.Need-returns-2
+returns-2 c = inl refl
+
+shared-slice-read-wide-2 : tie.Need-shared-slice-read-wide-2
+shared-slice-read-wide-2 c = search needs
+
+wide-requires-2 : tie.Need-wide-requires-2
+wide-requires-2 c κs = search needs
+
+add-if3 : tie.Need-add-if3
+add-if3 c = search needs
+
+add-if3-2 : tie.Need-add-if3-2
+add-if3-2 c = search needs
+
+add-if3-3 : tie.Need-add-if3-3
+add-if3-3 c = search needs
+
+within-requires : tie.Need-within-requires
+within-requires c κs = search needs
+
+within-requires-2 : tie.Need-within-requires-2
+within-requires-2 c κs = search needs
+
+within-requires-3 : tie.Need-within-requires-3
+within-requires-3 c κs = search needs
+
+ends-well-requires : tie.Need-ends-well-requires
+ends-well-requires c κs = search needs
+
+returns-3 : tie.Need-returns-3
+returns-3 c = inl refl
+
+returns-4 : tie.Need-returns-4
+unfolding joined
+returns-4 c =
+    let e = c .before in
+    let i3 = e .before in
+    let i2 = i3 .before in
+    let i1 = i2 .before in
+    let group = i1 .before in
+    let name = group .before .before .before in
+    let model = name .before .before in
+    inr (mapping-legal (model .before .before .before .args .row .now) _ _ _ _ (model .word-at .ensures .0) (name .wide .ensures .0) refl (group .wide2 .ensures .0)
+    (rw (← i1 .within .ensures, ← i2 .within2 .ensures, ← i3 .within3 .ensures, ← e .ends-well .ensures) (not-false _ (c .if3 .left))))
+
+pub mapping-end-spec : {M : Type 1} → statement M
+mapping-end-spec =
+    tie.close
+    (tie.spec
+    returns
+    word-at-requires
+    shared-slice-read-wide
+    wide-requires
+    add-a
+    add-if2
+    returns-2
+    shared-slice-read-wide-2
+    wide-requires-2
+    add-if3
+    add-if3-2
+    add-if3-3
+    within-requires
+    within-requires-2
+    within-requires-3
+    ends-well-requires
+    returns-3
+    returns-4)

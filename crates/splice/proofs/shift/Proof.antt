@@ -1,0 +1,54 @@
+-- `splice::shift` meets its contract: up by `to - from`, or down by `from - to`, or not at all where the two are equal. Assumes nothing.
+use mathlib.Core.Path.{_≡_}
+use Prim.Native.Nat.{_+_, _-_}
+use native.Mathlib.Omega.{arith}
+use borrow.Author.Needs.{needs}
+use Rattle.splice.proofs.Laws.{moved-same}
+use Rattle.splice.proofs.shift.Statement.{statement}
+use Rattle.splice.proofs.shift.Tie as tie
+
+sub-move-up : tie.Need-sub-move-up
+sub-move-up c = search needs
+
+move-up-requires : tie.Need-move-up-requires
+move-up-requires c κs = search needs
+
+move-down-requires : tie.Need-move-down-requires
+move-down-requires c κs = search needs
+
+same-length : tie.Need-same-length
+same-length c = search needs
+
+returns : tie.Need-returns
+returns c =
+    let s = c .before .before .before .before .before .before .args in
+    let e : s .to ≡ s .from + (s .to - s .from) = omega arith in
+    rw e (c .before .before .move-up .ensures)
+
+same-length-2 : tie.Need-same-length-2
+same-length-2 c = search needs
+
+returns-2 : tie.Need-returns-2
+returns-2 c =
+    let s = c .before .before .before .before .before .before .before .args in
+    let e : s .to ≡ s .from - (s .from - s .to) = omega arith in
+    rw e (c .before .before .move-down .ensures)
+
+returns-3 : tie.Need-returns-3
+returns-3 c =
+    let s = c .before .before .before .args in
+    let e : s .to ≡ s .from = omega arith in
+    rw e (moved-same (s .w .now) (s .from) (s .end))
+
+pub shift-spec : {M : Type 1} → statement M
+shift-spec =
+    tie.close
+    (tie.spec
+    sub-move-up
+    move-up-requires
+    move-down-requires
+    same-length
+    returns
+    same-length-2
+    returns-2
+    returns-3)

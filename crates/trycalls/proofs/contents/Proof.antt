@@ -1,0 +1,31 @@
+-- `trycalls::contents` meets its contract: none of a file that did not open, and otherwise what was read. Assumes nothing.
+use mathlib.Core.Path.{subst}
+use lib.Dec.{T}
+use mir.Syntax.{w32}
+use mir.ValLaws.{toZ-ofZ}
+use borrow.Author.Needs.{needs}
+use Rattle.trycalls.proofs.contents.Statement.{statement}
+use Rattle.trycalls.proofs.contents.Tie as tie
+
+returns : tie.Need-returns
+returns c = search needs
+
+read-full-requires : tie.Need-read-full-requires
+read-full-requires c κs = search needs
+
+close-requires : tie.Need-close-requires
+close-requires c κs = search needs
+
+same-length : tie.Need-same-length
+same-length c = search needs
+
+returns-2 : tie.Need-returns-2
+returns-2 c =
+    let r = c .before .before .before in
+    let t = r .before .before in
+    let s = t .before .before in
+    (r .read-full .ensures .0, λ h. absurd (subst T (rw (toZ-ofZ w32 (s .args .fd) (s .fits .fd)) at (t .if1 .left)) (h .lt)))
+
+pub contents-spec : {M : Type 1} → statement M
+contents-spec =
+    tie.close (tie.spec returns read-full-requires close-requires same-length returns-2)
