@@ -25,15 +25,15 @@ use Rattle.rows.proofs.Judging.{Walk, start, go, reached-at}
 -- ---- one field more
 
 module _ {ps ks : List Field} {row : List ℕ} {from at : ℕ} (lo hi n : ℕ) (i : within lo hi n ≡ true) (z : ℕ) (r : z ≤ length row) where
-  pub sequence-on : (w : Width) → Walk ps (sequence w lo hi ∷ ks) row from at → n ≡ getD row at 0 → z ≡ at + 1 + n * size w
+  sequence-on : (w : Width) → Walk ps (sequence w lo hi ∷ ks) row from at → n ≡ getD row at 0 → z ≡ at + 1 + n * size w
       → Walk (ps ++ (sequence w lo hi ∷ [])) ks row from z
   sequence-on w k e q = go k (sequence-whole row at (size w) lo hi n e (omega arith) i (omega arith)) (ap At (omega arith))
 
-  pub integer-on : (w : Width) → Walk ps (integer w lo hi ∷ ks) row from at → n ≡ number w (drop at row) → z ≡ at + size w
+  integer-on : (w : Width) → Walk ps (integer w lo hi ∷ ks) row from at → n ≡ number w (drop at row) → z ≡ at + size w
       → Walk (ps ++ (integer w lo hi ∷ [])) ks row from z
   integer-on w k e q = go k (integer-whole row at w lo hi n e (omega arith) i) (ap At (omega arith))
 
-  pub octet-on : Walk ps (integer octet lo hi ∷ ks) row from at → n ≡ getD row at 0 → z ≡ at + 1 → Walk (ps ++ (integer octet lo hi ∷ [])) ks row from z
+  octet-on : Walk ps (integer octet lo hi ∷ ks) row from at → n ≡ getD row at 0 → z ≡ at + 1 → Walk (ps ++ (integer octet lo hi ∷ [])) ks row from z
   octet-on k e q = integer-on octet k (e ∙ sym (getD-front row at)) q
 
 -- ---- the row's end

@@ -265,7 +265,14 @@ pub fn judge(t: Table, row: &[u8]) -> Step
     whole(row, b, a)
 }
 
-// A legal row is told by few branches and tests that are all made; 0 where it is not told, and `judge` says what is wrong, if anything is.
+// A legal row told with few branches, its tests joined, where speed counts. 0 or false tells nothing: `judge` says what is wrong, if anything is.
+
+fn byte_at(row: &[u8], at: usize) -> usize
+    requires { ⌜ at < length (now row) ⌝ }
+    ensures { λ r. ⌜ (r ≡ getD (now (row .entry)) at 0) × (r < 256) ⌝ }
+{
+    wide(row[at])
+}
 
 fn within(lo: usize, hi: usize, x: usize) -> bool
     ensures { λ r. ⌜ r ≡ within lo hi x ⌝ }
@@ -279,8 +286,8 @@ fn ends_well(row: &[u8]) -> bool
     ensures { λ r. ⌜ r ≡ endsWell (now (row .entry)) ⌝ }
 {
     let n = row.len();
-    let storage = wide(row[n - 2]);
-    let status = wide(row[n - 1]);
+    let storage = byte_at(row, n - 2);
+    let status = byte_at(row, n - 1);
     within(2, 5, storage) & within(1, 2, status)
 }
 
@@ -291,7 +298,7 @@ fn context_end(row: &[u8]) -> usize
     if n < 1 {
         return 0;
     }
-    let name = wide(row[0]);
+    let name = byte_at(row, 0);
     if !((1 + name == n) & within(0, 32, name)) {
         return 0;
     }
@@ -306,12 +313,12 @@ fn mapping_end(row: &[u8]) -> usize
         return 0;
     }
     let model = word_at(row, 0);
-    let name = wide(row[4]);
+    let name = byte_at(row, 4);
     let a = 5 + name;
     if n < a + 4 {
         return 0;
     }
-    let group = wide(row[a]);
+    let group = byte_at(row, a);
     if !((a + 1 + group + 2 == n)
         & within(1, 2147483647, model)
         & within(1, 32, name)
@@ -328,18 +335,18 @@ fn access_rest_fits(row: &[u8], key: usize) -> bool
     ensures { λ r. ⌜ Fits accessRest (now (row .entry)) key r ⌝ }
 {
     let n = row.len();
-    let exact = wide(row[key]);
-    let read = wide(row[key + 1]);
+    let exact = byte_at(row, key);
+    let read = byte_at(row, key + 1);
     let a = key + 2 + read;
     if n < a + 4 {
         return false;
     }
-    let write = wide(row[a]);
+    let write = byte_at(row, a);
     let b = a + 1 + write;
     if n < b + 3 {
         return false;
     }
-    let notify = wide(row[b]);
+    let notify = byte_at(row, b);
     (b + 1 + notify + 2 == n)
         & within(1, 2, exact)
         & within(0, 32, read)
@@ -355,18 +362,18 @@ fn access_end(row: &[u8]) -> usize
     if n < 14 {
         return 0;
     }
-    let group = wide(row[0]);
+    let group = byte_at(row, 0);
     let a = 1 + group;
     if n < a + 12 {
         return 0;
     }
-    let prefix = wide(row[a]);
+    let prefix = byte_at(row, a);
     let b = a + 1 + prefix;
     if n < b + 11 {
         return 0;
     }
     let model = word_at(row, b);
-    let level = wide(row[b + 4]);
+    let level = byte_at(row, b + 4);
     let key = b + 5;
     if !(within(1, 32, group)
         & within(0, 32, prefix)
@@ -385,18 +392,18 @@ fn view_end(row: &[u8]) -> usize
     if n < 11 {
         return 0;
     }
-    let name = wide(row[0]);
+    let name = byte_at(row, 0);
     let a = 1 + name;
     if n < a + 9 {
         return 0;
     }
-    let parts = wide(row[a]);
+    let parts = byte_at(row, a);
     let b = a + 1 + parts * 4;
     if n < b + 4 {
         return 0;
     }
-    let mask = wide(row[b]);
-    let kind = wide(row[n - 3]);
+    let mask = byte_at(row, b);
+    let kind = byte_at(row, n - 3);
     if !((b + 1 + mask + 3 == n)
         & within(1, 32, name)
         & within(1, 64, parts)

@@ -3,7 +3,7 @@
 -- ends all are. The measure is how many rows are left. Assumes nothing.
 use mathlib.Core.Path.{_≡_, refl, sym, _∙_}
 use mathlib.Core.Logic.{⊎-elim}
-use Prim.Native.Nat.{_+_, _*_}
+use Prim.Native.Nat.{_+_, _*_, _<_}
 use native.Mathlib.Omega.{arith}
 use borrow.Author.Needs.{needs}
 use Rattle.rows.specs.declared.Table.the-variants.{View}
@@ -33,6 +33,9 @@ looking : (l : tie.At-loop Inv-loop μ-loop) → let a = start l .args in
     Looking (a .name .now) (identifier (a .variable .now)) (a .w .now) (a .x) (l .loop .i) (l .loop .g) (l .loop .e) (l .loop .any)
 looking l = l .loop .inv (start l .args .x) refl refl (l .before .rows-end .ensures)
 
+more : (c : tie.In-loop Inv-loop μ-loop) → 0 < c .before .loop .i
+more c = omega arith
+
 mul-g : tie.Need-mul-g Inv-loop μ-loop
 mul-g c = omega (arith, c .before .before .before .pre .inside .lengths-in)
 
@@ -46,13 +49,13 @@ loop-holds : tie.Need-loop-holds Inv-loop μ-loop
 loop-holds c = λ x p q r. looking-start _ _ _ x p q r
 
 sub-g : tie.Need-sub-g Inv-loop μ-loop
-sub-g c = back-length (looking (c .before) .walk) (c .loop-test .taken) (sound (c .before) .inside) .0
+sub-g c = back-length (looking (c .before) .walk) (more c) (sound (c .before) .inside) .0
 
 pair-at-requires : tie.Need-pair-at-requires Inv-loop μ-loop
-pair-at-requires c κs = back-length (looking (c .before) .walk) (c .loop-test .taken) (sound (c .before) .inside) .1
+pair-at-requires c κs = back-length (looking (c .before) .walk) (more c) (sound (c .before) .inside) .1
 
 sub-o : tie.Need-sub-o Inv-loop μ-loop
-sub-o c = back-row (looking (c .before .before) .walk) (c .before .loop-test .taken) _ (c .pair-at .ensures .0)
+sub-o c = back-row (looking (c .before .before) .walk) (more (c .before)) _ (c .pair-at .ensures .0)
 
 sub-sight : tie.Need-sub-sight Inv-loop μ-loop
 sub-sight c = search needs
@@ -66,7 +69,7 @@ part-sight-end c = back-place (looking (c .before .before) .walk) (sound (c .bef
 sight-requires : tie.Need-sight-requires Inv-loop μ-loop
 sight-requires c κs =
     let p = c .before in
-    back-whole (looking (p .before .before) .walk) (p .before .loop-test .taken) _ (p .pair-at .ensures .0) (sound (p .before .before))
+    back-whole (looking (p .before .before) .walk) (more (p .before)) _ (p .pair-at .ensures .0) (sound (p .before .before))
 
 enum-told : tie.Need-enum-told Inv-loop μ-loop
 enum-told c = search needs
@@ -77,8 +80,8 @@ returns c =
     let p = v .before .before in
     let l = p .before .before in
     let k = looking l in (
-      looking-some k (p .before .loop-test .taken) _ (p .pair-at .ensures .0) _ (v .sight .ensures) (c .enum-told .given .1),
-      looking-found k (p .before .loop-test .taken) _ (p .pair-at .ensures .0) _ (v .sight .ensures) (c .enum-told .given .1) (sound l),
+      looking-some k (more (p .before)) _ (p .pair-at .ensures .0) _ (v .sight .ensures) (c .enum-told .given .1),
+      looking-found k (more (p .before)) _ (p .pair-at .ensures .0) _ (v .sight .ensures) (c .enum-told .given .1) (sound l),
     )
 
 enum-told-2 : tie.Need-enum-told-2 Inv-loop μ-loop
@@ -98,8 +101,8 @@ loop-again c =
     let l = p .before .before in
     let k = l .loop .inv x m q r in
     ⊎-elim
-    (λ u. rw (u .2) (looking-unmatched k (p .before .loop-test .taken) _ (p .pair-at .ensures .0) _ (v .sight .ensures) (u .1 .given .1)))
-    (λ u. rw (u .1) (looking-elsewhere k (p .before .loop-test .taken) _ (p .pair-at .ensures .0) _ (v .sight .ensures) (left-elsewhere _ (c .before .match .keys2) (u .0 .keys2))))
+    (λ u. rw (u .2) (looking-unmatched k (more (p .before)) _ (p .pair-at .ensures .0) _ (v .sight .ensures) (u .1 .given .1)))
+    (λ u. rw (u .1) (looking-elsewhere k (more (p .before)) _ (p .pair-at .ensures .0) _ (v .sight .ensures) (left-elsewhere _ (c .before .match .keys2) (u .0 .keys2))))
     (c .match2 .came)
 
 returns-2 : tie.Need-returns-2 Inv-loop μ-loop

@@ -11,11 +11,8 @@ use Rattle.rows.proofs.access_end.Tie as tie
 returns : tie.Need-returns
 returns c = inl refl
 
-shared-slice-read-wide : tie.Need-shared-slice-read-wide
-shared-slice-read-wide c = search needs
-
-wide-requires : tie.Need-wide-requires
-wide-requires c κs = search needs
+byte-at-requires : tie.Need-byte-at-requires
+byte-at-requires c κs = search needs
 
 add-a : tie.Need-add-a
 add-a c = search needs
@@ -26,11 +23,8 @@ add-if2 c = search needs
 returns-2 : tie.Need-returns-2
 returns-2 c = inl refl
 
-shared-slice-read-wide-2 : tie.Need-shared-slice-read-wide-2
-shared-slice-read-wide-2 c = search needs
-
-wide-requires-2 : tie.Need-wide-requires-2
-wide-requires-2 c κs = search needs
+byte-at-requires-2 : tie.Need-byte-at-requires-2
+byte-at-requires-2 c κs = search needs
 
 add-b : tie.Need-add-b
 add-b c = search needs
@@ -47,14 +41,11 @@ returns-3 c = inl refl
 word-at-requires : tie.Need-word-at-requires
 word-at-requires c κs = search needs
 
-add-wide : tie.Need-add-wide
-add-wide c = search needs
+add-byte-at : tie.Need-add-byte-at
+add-byte-at c = search needs
 
-shared-slice-read-wide-3 : tie.Need-shared-slice-read-wide-3
-shared-slice-read-wide-3 c = search needs
-
-wide-requires-3 : tie.Need-wide-requires-3
-wide-requires-3 c κs = search needs
+byte-at-requires-3 : tie.Need-byte-at-requires-3
+byte-at-requires-3 c κs = search needs
 
 add-key : tie.Need-add-key
 add-key c = search needs
@@ -86,11 +77,11 @@ returns-5 c =
     let i2 = i3 .before in
     let i1 = i2 .before in
     let level = i1 .before in
-    let model = level .before .before in
+    let model = level .before in
     let prefix = model .before .before in
-    let group = prefix .before .before .before in
-    inr (access-legal (group .before .before .before .before .args .row .now) _ _ _ _ _ _ _ (f .access-rest-fits .result) (omega arith)
-    (group .wide .ensures .0) refl (prefix .wide2 .ensures .0) refl (model .word-at .ensures .0) (level .wide3 .ensures .0) refl (f .access-rest-fits .ensures)
+    let group = prefix .before .before in
+    inr (access-legal (group .before .before .before .args .row .now) _ _ _ _ _ _ _ (f .access-rest-fits .result) (omega arith)
+    (group .byte-at .ensures .0) refl (prefix .byte-at2 .ensures .0) refl (model .word-at .ensures .0) (level .byte-at3 .ensures .0) refl (f .access-rest-fits .ensures)
     (rw (← i1 .within .ensures, ← i2 .within2 .ensures, ← i3 .within3 .ensures, ← i4 .within4 .ensures) (not-false _ (c .if4 .left))))
 
 pub access-end-spec : {M : Type 1} → statement M
@@ -98,21 +89,18 @@ access-end-spec =
     tie.close
     (tie.spec
     returns
-    shared-slice-read-wide
-    wide-requires
+    byte-at-requires
     add-a
     add-if2
     returns-2
-    shared-slice-read-wide-2
-    wide-requires-2
+    byte-at-requires-2
     add-b
     add-b-2
     add-if3
     returns-3
     word-at-requires
-    add-wide
-    shared-slice-read-wide-3
-    wide-requires-3
+    add-byte-at
+    byte-at-requires-3
     add-key
     within-requires
     within-requires-2

@@ -7,20 +7,14 @@ use Rattle.rows.proofs.Legal.{joined, access-rest-legal}
 use Rattle.rows.proofs.access_rest_fits.Statement.{statement}
 use Rattle.rows.proofs.access_rest_fits.Tie as tie
 
-shared-slice-read-wide : tie.Need-shared-slice-read-wide
-shared-slice-read-wide c = search needs
+byte-at-requires : tie.Need-byte-at-requires
+byte-at-requires c κs = search needs
 
-wide-requires : tie.Need-wide-requires
-wide-requires c κs = search needs
+add-byte-at : tie.Need-add-byte-at
+add-byte-at c = search needs
 
-add-wide : tie.Need-add-wide
-add-wide c = search needs
-
-shared-slice-read-wide-2 : tie.Need-shared-slice-read-wide-2
-shared-slice-read-wide-2 c = search needs
-
-wide-requires-2 : tie.Need-wide-requires-2
-wide-requires-2 c κs = search needs
+byte-at-requires-2 : tie.Need-byte-at-requires-2
+byte-at-requires-2 c κs = search needs
 
 add-a : tie.Need-add-a
 add-a c = search needs
@@ -34,11 +28,8 @@ add-if1 c = search needs
 returns : tie.Need-returns
 returns c = λ t. clash t refl
 
-shared-slice-read-wide-3 : tie.Need-shared-slice-read-wide-3
-shared-slice-read-wide-3 c = search needs
-
-wide-requires-3 : tie.Need-wide-requires-3
-wide-requires-3 c κs = search needs
+byte-at-requires-3 : tie.Need-byte-at-requires-3
+byte-at-requires-3 c κs = search needs
 
 add-b : tie.Need-add-b
 add-b c = search needs
@@ -52,11 +43,8 @@ add-if2 c = search needs
 returns-2 : tie.Need-returns-2
 returns-2 c = λ t. clash t refl
 
-shared-slice-read-wide-4 : tie.Need-shared-slice-read-wide-4
-shared-slice-read-wide-4 c = search needs
-
-wide-requires-4 : tie.Need-wide-requires-4
-wide-requires-4 c κs = search needs
+byte-at-requires-4 : tie.Need-byte-at-requires-4
+byte-at-requires-4 c κs = search needs
 
 add-result : tie.Need-add-result
 add-result c = search needs
@@ -90,36 +78,32 @@ returns-3 c =
     let i2 = i3 .before in
     let i1 = i2 .before in
     let notify = i1 .before in
-    let write = notify .before .before .before in
-    let read = write .before .before .before in
-    let exact = read .before .before in
-    let s = exact .before .before .before .args in
+    let write = notify .before .before in
+    let read = write .before .before in
+    let exact = read .before in
+    let s = exact .before .before .args in
     λ t.
     access-rest-legal (s .row .now) (s .key) _ _ _ _ _ _
-    (exact .wide .ensures .0) (read .wide2 .ensures .0) refl (write .wide3 .ensures .0) refl (notify .wide4 .ensures .0)
+    (exact .byte-at .ensures .0) (read .byte-at2 .ensures .0) refl (write .byte-at3 .ensures .0) refl (notify .byte-at4 .ensures .0)
     (rw (← i1 .within .ensures, ← i2 .within2 .ensures, ← i3 .within3 .ensures, ← i4 .within4 .ensures, ← c .ends-well .ensures) t)
 
 pub access-rest-fits-spec : {M : Type 1} → statement M
 access-rest-fits-spec =
     tie.close
     (tie.spec
-    shared-slice-read-wide
-    wide-requires
-    add-wide
-    shared-slice-read-wide-2
-    wide-requires-2
+    byte-at-requires
+    add-byte-at
+    byte-at-requires-2
     add-a
     add-a-2
     add-if1
     returns
-    shared-slice-read-wide-3
-    wide-requires-3
+    byte-at-requires-3
     add-b
     add-b-2
     add-if2
     returns-2
-    shared-slice-read-wide-4
-    wide-requires-4
+    byte-at-requires-4
     add-result
     add-result-2
     add-result-3

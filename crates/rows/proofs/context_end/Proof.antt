@@ -10,11 +10,8 @@ use Rattle.rows.proofs.context_end.Tie as tie
 returns : tie.Need-returns
 returns c = inl refl
 
-shared-slice-read-wide : tie.Need-shared-slice-read-wide
-shared-slice-read-wide c = search needs
-
-wide-requires : tie.Need-wide-requires
-wide-requires c κs = search needs
+byte-at-requires : tie.Need-byte-at-requires
+byte-at-requires c κs = search needs
 
 add-if2 : tie.Need-add-if2
 add-if2 c = search needs
@@ -30,15 +27,14 @@ unfolding joined
 returns-3 c =
     let i = c .before in
     let x = i .before in
-    inr (context-legal (x .before .before .before .before .args .row .now) _ (x .wide .ensures .0) (rw (← i .within .ensures) (not-false _ (c .if2 .left))))
+    inr (context-legal (x .before .before .before .args .row .now) _ (x .byte-at .ensures .0) (rw (← i .within .ensures) (not-false _ (c .if2 .left))))
 
 pub context-end-spec : {M : Type 1} → statement M
 context-end-spec =
     tie.close
     (tie.spec
     returns
-    shared-slice-read-wide
-    wide-requires
+    byte-at-requires
     add-if2
     within-requires
     returns-2

@@ -13,11 +13,8 @@ returns c = inl refl
 word-at-requires : tie.Need-word-at-requires
 word-at-requires c κs = search needs
 
-shared-slice-read-wide : tie.Need-shared-slice-read-wide
-shared-slice-read-wide c = search needs
-
-wide-requires : tie.Need-wide-requires
-wide-requires c κs = search needs
+byte-at-requires : tie.Need-byte-at-requires
+byte-at-requires c κs = search needs
 
 add-a : tie.Need-add-a
 add-a c = search needs
@@ -28,11 +25,8 @@ add-if2 c = search needs
 returns-2 : tie.Need-returns-2
 returns-2 c = inl refl
 
-shared-slice-read-wide-2 : tie.Need-shared-slice-read-wide-2
-shared-slice-read-wide-2 c = search needs
-
-wide-requires-2 : tie.Need-wide-requires-2
-wide-requires-2 c κs = search needs
+byte-at-requires-2 : tie.Need-byte-at-requires-2
+byte-at-requires-2 c κs = search needs
 
 add-if3 : tie.Need-add-if3
 add-if3 c = search needs
@@ -66,9 +60,9 @@ returns-4 c =
     let i2 = i3 .before in
     let i1 = i2 .before in
     let group = i1 .before in
-    let name = group .before .before .before in
-    let model = name .before .before in
-    inr (mapping-legal (model .before .before .before .args .row .now) _ _ _ _ (model .word-at .ensures .0) (name .wide .ensures .0) refl (group .wide2 .ensures .0)
+    let name = group .before .before in
+    let model = name .before in
+    inr (mapping-legal (model .before .before .before .args .row .now) _ _ _ _ (model .word-at .ensures .0) (name .byte-at .ensures .0) refl (group .byte-at2 .ensures .0)
     (rw (← i1 .within .ensures, ← i2 .within2 .ensures, ← i3 .within3 .ensures, ← e .ends-well .ensures) (not-false _ (c .if3 .left))))
 
 pub mapping-end-spec : {M : Type 1} → statement M
@@ -77,13 +71,11 @@ mapping-end-spec =
     (tie.spec
     returns
     word-at-requires
-    shared-slice-read-wide
-    wide-requires
+    byte-at-requires
     add-a
     add-if2
     returns-2
-    shared-slice-read-wide-2
-    wide-requires-2
+    byte-at-requires-2
     add-if3
     add-if3-2
     add-if3-3

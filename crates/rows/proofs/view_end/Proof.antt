@@ -10,11 +10,8 @@ use Rattle.rows.proofs.view_end.Tie as tie
 returns : tie.Need-returns
 returns c = inl refl
 
-shared-slice-read-wide : tie.Need-shared-slice-read-wide
-shared-slice-read-wide c = search needs
-
-wide-requires : tie.Need-wide-requires
-wide-requires c κs = search needs
+byte-at-requires : tie.Need-byte-at-requires
+byte-at-requires c κs = search needs
 
 add-a : tie.Need-add-a
 add-a c = search needs
@@ -25,11 +22,8 @@ add-if2 c = search needs
 returns-2 : tie.Need-returns-2
 returns-2 c = inl refl
 
-shared-slice-read-wide-2 : tie.Need-shared-slice-read-wide-2
-shared-slice-read-wide-2 c = search needs
-
-wide-requires-2 : tie.Need-wide-requires-2
-wide-requires-2 c κs = search needs
+byte-at-requires-2 : tie.Need-byte-at-requires-2
+byte-at-requires-2 c κs = search needs
 
 add-b : tie.Need-add-b
 add-b c = search needs
@@ -46,20 +40,14 @@ add-if3 c = search needs
 returns-3 : tie.Need-returns-3
 returns-3 c = inl refl
 
-shared-slice-read-wide-3 : tie.Need-shared-slice-read-wide-3
-shared-slice-read-wide-3 c = search needs
+byte-at-requires-3 : tie.Need-byte-at-requires-3
+byte-at-requires-3 c κs = search needs
 
-wide-requires-3 : tie.Need-wide-requires-3
-wide-requires-3 c κs = search needs
+sub-byte-at : tie.Need-sub-byte-at
+sub-byte-at c = search needs
 
-sub-wide : tie.Need-sub-wide
-sub-wide c = search needs
-
-shared-slice-read-wide-4 : tie.Need-shared-slice-read-wide-4
-shared-slice-read-wide-4 c = search needs
-
-wide-requires-4 : tie.Need-wide-requires-4
-wide-requires-4 c κs = search needs
+byte-at-requires-4 : tie.Need-byte-at-requires-4
+byte-at-requires-4 c κs = search needs
 
 add-if4 : tie.Need-add-if4
 add-if4 c = search needs
@@ -97,11 +85,11 @@ returns-5 c =
     let i2 = i3 .before in
     let i1 = i2 .before in
     let kind = i1 .before in
-    let mask = kind .before .before in
-    let parts = mask .before .before .before in
-    let name = parts .before .before .before in
-    inr (view-legal (name .before .before .before .before .args .row .now) _ _ _ _ _ _
-    (name .wide .ensures .0) refl (parts .wide2 .ensures .0) refl (mask .wide3 .ensures .0) (kind .wide4 .ensures .0)
+    let mask = kind .before in
+    let parts = mask .before .before in
+    let name = parts .before .before in
+    inr (view-legal (name .before .before .before .args .row .now) _ _ _ _ _ _
+    (name .byte-at .ensures .0) refl (parts .byte-at2 .ensures .0) refl (mask .byte-at3 .ensures .0) (kind .byte-at4 .ensures .0)
     (rw (← i1 .within .ensures, ← i2 .within2 .ensures, ← i3 .within3 .ensures, ← i4 .within4 .ensures, ← e .ends-well .ensures) (not-false _ (c .if4 .left))))
 
 pub view-end-spec : {M : Type 1} → statement M
@@ -109,23 +97,19 @@ view-end-spec =
     tie.close
     (tie.spec
     returns
-    shared-slice-read-wide
-    wide-requires
+    byte-at-requires
     add-a
     add-if2
     returns-2
-    shared-slice-read-wide-2
-    wide-requires-2
+    byte-at-requires-2
     add-b
     mul-b
     add-b-2
     add-if3
     returns-3
-    shared-slice-read-wide-3
-    wide-requires-3
-    sub-wide
-    shared-slice-read-wide-4
-    wide-requires-4
+    byte-at-requires-3
+    sub-byte-at
+    byte-at-requires-4
     add-if4
     add-if4-2
     add-if4-3
