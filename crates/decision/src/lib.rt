@@ -17,7 +17,7 @@ ghost use Rattle.lists.specs.Lists.{any, find, keep};
 ghost use Rattle.rows.specs.declared.Table.the-variants.{Context, Mapping, Access, View};
 ghost use Rattle.rows.specs.Fields.{word, bytesOf};
 ghost use Rattle.rows.specs.Rows.{contextOf, mappingOf, accessOf, viewOf};
-ghost use Rattle.image.specs.Layout.{rowsIn, endOf, Inside};
+ghost use Rattle.image.specs.Layout.{rowsIn};
 ghost use Rattle.image.specs.Image.{SoundTable, SoundLayout, tablesAt};
 ghost use Rattle.image.specs.Store.{held};
 ghost use Rattle.procedure.specs.Request.{asked, inRange};
@@ -122,23 +122,6 @@ fn find_access(
 
 // ---- steps 4 and 5: in the order of the indices the last row of a view that matches is the longest, then the greatest
 
-// Where the rows end. They lie within the image, so that their number needs no limit.
-fn rows_end(w: &[u8], x: Extent) -> usize
-    requires { ⌜ Inside (now w) x ⌝ }
-    ensures { λ r. ⌜ r ≡ endOf (now (w .entry)) x ⌝ }
-{
-    let n = x.count;
-    let mut i = 0;
-    let mut g = x.lengths;
-    let mut e = x.rows;
-    while i < n {
-        e += image::pair_at(w, g);
-        g += 2;
-        i += 1;
-    }
-    e
-}
-
 // From the end, so that the first row that matches is the one.
 fn find_view(w: &[u8], x: Extent, name: &[u8], variable: &[u8]) -> Viewed
     requires { ⌜ SoundTable View (now w) x ⌝ }
@@ -147,7 +130,7 @@ fn find_view(w: &[u8], x: Extent, name: &[u8], variable: &[u8]) -> Viewed
 {
     let mut i = x.count;
     let mut g = x.lengths + 2 * i;
-    let mut e = rows_end(w, x);
+    let mut e = image::end_of(w, x);
     let mut any = false;
     while 0 < i {
         g -= 2;

@@ -71,8 +71,8 @@ module _ {w : List ℕ} {l : Layout} (h : isSound w ≡ true) (q : l ≡ layoutO
   pub inside-laid : (t : Table) {x : Extent} → x ≡ extentOf t l → Inside w x
   inside-laid t e = rw (e ∙ ap (extentOf t) q) (table-inside t w h)
 
-  pub views-laid : Inside w (l .views) × (l .views .count ≤ 240)
-  views-laid = rw q (table-inside View w h, omega (arith, length-rows w (layoutOf w .views), store-sound w h .few View))
+  pub views-laid : Inside w (l .views)
+  views-laid = rw q (table-inside View w h)
 
   pub sound-laid : SoundLayout w l
   sound-laid = rw q (sound-layout w h)

@@ -62,14 +62,21 @@ fn sum(w: &[u8], at: usize, n: usize) -> usize
     s
 }
 
-// Where the rows of an extent end.
+// Where the rows of an extent end. They lie within w, so that their number needs no limit.
 pub fn end_of(w: &[u8], x: Extent) -> usize
-    requires { ⌜ Inside (now w) x × (x .count ≤ 240) ⌝ }
+    requires { ⌜ Inside (now w) x ⌝ }
     ensures { λ r. ⌜ r ≡ endOf (now (w .entry)) x ⌝ }
 {
-    let at = x.lengths;
     let rows = x.count;
-    x.rows + sum(w, at, rows)
+    let mut i = 0;
+    let mut g = x.lengths;
+    let mut e = x.rows;
+    while i < rows {
+        e += pair_at(w, g);
+        g += 2;
+        i += 1;
+    }
+    e
 }
 
 // A row judged: a legal one by a quick look at its lengths and its end, any other field by field.

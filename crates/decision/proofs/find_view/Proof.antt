@@ -31,7 +31,7 @@ sound l = start l .pre
 
 looking : (l : tie.At-loop Inv-loop μ-loop) → let a = start l .args in
     Looking (a .name .now) (identifier (a .variable .now)) (a .w .now) (a .x) (l .loop .i) (l .loop .g) (l .loop .e) (l .loop .any)
-looking l = l .loop .inv (start l .args .x) refl refl (l .before .rows-end .ensures)
+looking l = l .loop .inv (start l .args .x) refl refl (l .before .end-of .ensures)
 
 more : (c : tie.In-loop Inv-loop μ-loop) → 0 < c .before .loop .i
 more c = omega arith
@@ -42,8 +42,8 @@ mul-g c = omega (arith, c .before .before .before .pre .inside .lengths-in)
 add-g : tie.Need-add-g Inv-loop μ-loop
 add-g c = omega (arith, c .before .before .before .before .pre .inside .lengths-in)
 
-rows-end-requires : tie.Need-rows-end-requires Inv-loop μ-loop
-rows-end-requires c κs = c .before .before .before .before .pre .inside
+end-of-requires : tie.Need-end-of-requires Inv-loop μ-loop
+end-of-requires c κs = c .before .before .before .before .pre .inside
 
 loop-holds : tie.Need-loop-holds Inv-loop μ-loop
 loop-holds c = λ x p q r. looking-start _ _ _ x p q r
@@ -118,7 +118,7 @@ find-view-spec =
     μ-loop
     mul-g
     add-g
-    rows-end-requires
+    end-of-requires
     loop-holds
     sub-g
     pair-at-requires

@@ -47,7 +47,7 @@ all-rows-requires : tie.Need-all-rows-requires
 all-rows-requires c κs = few-laid (start (c .before .before .before) .args .store .now) (laid c .0) (laid c .1)
 
 end-of-requires : tie.Need-end-of-requires
-end-of-requires c κs = (all c .inside, all c .few)
+end-of-requires c κs = all c .inside
 
 returns-2 : tie.Need-returns-2
 returns-2 c =

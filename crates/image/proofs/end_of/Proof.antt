@@ -1,12 +1,12 @@
--- `decision::rows_end` meets its contract. The loop's invariant is a walk over the extent's rows: each lies within w, so that no sum is too great,
+-- `image::end_of` meets its contract. The loop's invariant is a walk over the extent's rows: each lies within w, so that no sum is too great,
 -- and behind the last the walk stands where the extent ends. The measure is how many rows are left. Assumes nothing.
 use mathlib.Core.Path.{_≡_}
 use Prim.Native.Nat.{_-_}
 use native.Mathlib.Omega.{arith}
 use borrow.Author.Needs.{needs}
 use Rattle.image.proofs.Walks.{extent, Walk, walk-start, walk-length, walk-row, walk-next, walk-end}
-use Rattle.decision.proofs.rows_end.Statement.{statement}
-use Rattle.decision.proofs.rows_end.Tie as tie
+use Rattle.image.proofs.end_of.Statement.{statement}
+use Rattle.image.proofs.end_of.Tie as tie
 
 abbrev Inv-loop : tie.InvT-loop
 Inv-loop w n i₀ g₀ e₀ i g e = Walk w (extent g₀ e₀ n) i g e
@@ -40,6 +40,6 @@ loop-again c = walk-next (c .before .before .loop .inv) _ (c .before .loop-test 
 returns : tie.Need-returns Inv-loop μ-loop
 returns c = walk-end (c .before .loop .inv) (c .loop-test .left)
 
-pub rows-end-spec : {M : Type 1} → statement M
-rows-end-spec =
+pub end-of-spec : {M : Type 1} → statement M
+end-of-spec =
     tie.close (tie.spec Inv-loop μ-loop loop-holds pair-at-requires add-e add-g add-i loop-less loop-again returns)
