@@ -38,33 +38,40 @@ fn answer(store: &mut [u8], number: u64, line: &[u8], out: &mut [u8])
     io::write_all(STDOUT_FILENO, &out[0..n]);
 }
 
-// How many lines are answered, and how much of the next is held.
+// How many lines are answered, how much of the next is held, and how much of the piece is taken.
 struct Progress {
     number: u64,
     held: usize,
+    at: usize,
 }
 
-fn take_octet(store: &mut [u8], p: Progress, x: u8, line: &mut [u8], out: &mut [u8]) -> Progress
-    requires { ⌜ (p .held ≤ length (now line)) × (95100 ≤ length (now out)) × (p .number < 18446744073709551615) ⌝ }
-    ensures { λ r. ⌜ (r .held ≤ length (now (line .exit))) × (r .number ≤ p .number + 1) ⌝ }
+// Takes a line as far as the piece has it, and answers it where it ends there. Of a line that is too long it is only told that it is longer.
+fn take_line(
+    store: &mut [u8],
+    p: Progress,
+    piece: &[u8],
+    line: &mut [u8],
+    out: &mut [u8],
+) -> Progress
+    requires { ⌜ (p .held ≤ length (now line)) × (p .at < length (now piece)) × (95100 ≤ length (now out)) × (p .number < 18446744073709551615) ⌝ }
+    ensures { λ r. ⌜ (r .held ≤ length (now (line .exit))) × (p .at < r .at) × (r .at ≤ length (now (piece .entry))) × (r .number + p .at ≤ p .number + r .at) ⌝ }
 {
-    let held = p.held;
     let number = p.number;
-    if x == b'\n' {
-        answer(store, number + 1, &line[0..held], out);
+    let c = lines::continue_line(line, p.held, piece, p.at);
+    let end = c.end;
+    let held = c.held;
+    if end == piece.len() {
         return Progress {
-            number: number + 1,
-            held: 0,
+            number,
+            held,
+            at: end,
         };
     }
-    // of a longer line it is only told that it is longer
-    if line.len() <= held {
-        return p;
-    }
-    line[held] = x;
+    answer(store, number + 1, &line[0..held], out);
     Progress {
-        number,
-        held: held + 1,
+        number: number + 1,
+        held: 0,
+        at: end + 1,
     }
 }
 
@@ -78,11 +85,13 @@ fn take_piece(
     requires { ⌜ (p .held ≤ length (now line)) × (95100 ≤ length (now out)) × (p .number + length (now piece) < 18446744073709551616) ⌝ }
     ensures { λ r. ⌜ (r .held ≤ length (now (line .exit))) × (r .number ≤ p .number + length (now (piece .entry))) ⌝ }
 {
-    let mut q = p;
-    let mut i = 0;
-    while i < piece.len() {
-        q = take_octet(store, q, piece[i], line, out);
-        i += 1;
+    let mut q = Progress {
+        number: p.number,
+        held: p.held,
+        at: 0,
+    };
+    while q.at < piece.len() {
+        q = take_line(store, q, piece, line, out);
     }
     q
 }
@@ -102,7 +111,11 @@ fn serve(store: &mut [u8]) {
     let mut piece = [0u8; 65536];
     let mut line = [0u8; 2049];
     let mut out = [0u8; 95100];
-    let mut p = Progress { number: 0, held: 0 };
+    let mut p = Progress {
+        number: 0,
+        held: 0,
+        at: 0,
+    };
     // as many pieces as lines can be counted
     let mut turns: u64 = 140737488355328;
     while 0 < turns {

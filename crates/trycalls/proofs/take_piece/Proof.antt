@@ -1,4 +1,5 @@
--- `trycalls::take_piece` meets its contract: the loop's invariant: what is held fits the line, and there were no more lines than octets. The measure is what is left of the piece. Assumes nothing.
+-- `trycalls::take_piece` meets its contract: the loop's invariant: what is held fits the line, no more is taken than the piece has, and there were no more
+-- lines than octets. The measure is what is left of the piece. Assumes nothing.
 use mathlib.Core.Path.{_≡_}
 use Prim.Native.Nat.{_+_, _-_, _≤_}
 use lib.ListN.{length}
@@ -7,24 +8,18 @@ use Rattle.trycalls.proofs.take_piece.Statement.{statement}
 use Rattle.trycalls.proofs.take_piece.Tie as tie
 
 abbrev Inv-loop : tie.InvT-loop
-Inv-loop store₀ piece line₀ out₀ q₀ i₀ store line out q i =
-    (i ≤ length piece) × (q .held ≤ length line) × (q .number ≤ q₀ .number + i)
+Inv-loop store₀ piece line₀ out₀ q₀ store line out q =
+    (q .at ≤ length piece) × (q .held ≤ length line) × (q .number ≤ q₀ .number + q .at)
     × (length store ≡ length store₀) × (length line ≡ length line₀) × (length out ≡ length out₀)
 
 abbrev μ-loop : tie.MeasureT-loop
-μ-loop store₀ piece line₀ out₀ q₀ i₀ store line out q i = length piece - i
+μ-loop store₀ piece line₀ out₀ q₀ store line out q = length piece - q .at
 
 loop-holds : tie.Need-loop-holds Inv-loop μ-loop
 loop-holds c = search needs
 
-shared-slice-read-take-octet : tie.Need-shared-slice-read-take-octet Inv-loop μ-loop
-shared-slice-read-take-octet c = search needs
-
-take-octet-requires : tie.Need-take-octet-requires Inv-loop μ-loop
-take-octet-requires c κs = search needs
-
-add-i : tie.Need-add-i Inv-loop μ-loop
-add-i c = search needs
+take-line-requires : tie.Need-take-line-requires Inv-loop μ-loop
+take-line-requires c κs = search needs
 
 loop-less : tie.Need-loop-less Inv-loop μ-loop
 loop-less c = search needs
@@ -51,9 +46,7 @@ take-piece-spec =
     Inv-loop
     μ-loop
     loop-holds
-    shared-slice-read-take-octet
-    take-octet-requires
-    add-i
+    take-line-requires
     loop-less
     loop-again
     same-length
