@@ -22,9 +22,9 @@ use Rattle.rows.specs.Rows.{keyFields, rowFields}
 use Rattle.rows.proofs.Inverse.{faults-made}
 use Rattle.rows.proofs.Bounds.{longestField, longest, bounded}
 use Rattle.entry.specs.Entries.{wordsAfter, andThen, said, field, fields, entry, fieldEntry}
-use Rattle.entry.specs.declared.Form.{Form}
-use Rattle.entry.specs.declared.Form.the-variants.{Name, Subtree, Large, Small}
-use Rattle.entry.specs.Reading.{fieldOf, roomOf, fieldIn}
+use Rattle.rows.specs.declared.Form.{Form}
+use Rattle.rows.specs.declared.Form.the-variants.{Name, Subtree, Large, Small}
+use Rattle.rows.specs.Forms.{fieldOf, roomOf, fieldIn}
 use Rattle.entry.proofs.Following.{WordAt, none-behind, word-over}
 use Rattle.entry.proofs.Placing.{back, back-front}
 use Rattle.entry.proofs.Saying.{never, Filling, bytes-most}

@@ -1,16 +1,17 @@
 // A row or a key of a table, said in the words of a line, turned into its bytes in the form of the image. The desk programs share it.
+use rows::Form;
 use rows::Table;
 use words::Filled;
 use words::Number;
 ghost use mathlib.Core.Path.{_≡_};
-ghost use mathlib.Core.List.{_++_};
 ghost use Prim.Native.Nat.{_+_, _*_, _≤_, _<_};
 ghost use lib.ListN.{length, take};
 ghost use Rattle.words.specs.Words.{decimal, numberOf, Fills};
 ghost use Rattle.rows.specs.Fields.{octet, word as Width·word, sequence, integer, bytes, bytesOf};
-ghost use Rattle.rows.specs.Rows.{mappingKey, mappingRest, accessKey, accessRest, viewKey, viewRest, keyFields, rowFields};
+ghost use Rattle.rows.specs.Rows.{keyFields, rowFields};
+ghost use Rattle.rows.specs.Forms.{fieldOf, roomOf};
 ghost use Rattle.entry.specs.Entries.{wordsAfter, tableNamed, fieldEntry, entry};
-ghost use Rattle.entry.specs.Reading.{wordAt, namedTable, ranged, fieldOf, roomOf, fieldIn};
+ghost use Rattle.entry.specs.Reading.{wordAt, namedTable, ranged};
 
 // ---- words
 
@@ -165,14 +166,6 @@ fn small(word: &[u8], lo: u8, hi: u8, out: &mut [u8]) -> Filled
     Filled::Upto(1)
 }
 
-// A field's range, of octets, sub-identifiers or the number itself.
-enum Form {
-    Name(u8, u8),
-    Subtree(u8, u8),
-    Large(u32, u32),
-    Small(u8, u8),
-}
-
 fn field(f: Form, word: &[u8], out: &mut [u8]) -> Filled
     requires { ⌜ (roomOf f < length (now out)) × (length (now word) ≤ 2048) ⌝ }
     ensures { λ r. ⌜ Fills r (now (out .exit)) (fieldEntry (fieldOf f) (now (word .entry))) ⌝ }
@@ -182,90 +175,6 @@ fn field(f: Form, word: &[u8], out: &mut [u8]) -> Filled
         Form::Subtree(lo, hi) => subtree(word, lo, hi, out),
         Form::Large(lo, hi) => large(word, lo, hi, out),
         Form::Small(lo, hi) => small(word, lo, hi, out),
-    }
-}
-
-// ---- the fields of each table, in their order
-
-// Model and name, then group, storage, status.
-fn mapping_form(i: usize) -> Form
-    requires { ⌜ i < 5 ⌝ }
-    ensures { λ r. ⌜ fieldOf r ≡ fieldIn (mappingKey ++ mappingRest) i ⌝ }
-{
-    match i {
-        0 => Form::Large(1, 2147483647),
-        1 => Form::Name(1, 32),
-        2 => Form::Name(1, 32),
-        3 => Form::Small(2, 5),
-        _ => Form::Small(1, 2),
-    }
-}
-
-// Group, prefix, model and level, then match, three view names, storage, status.
-fn access_form(i: usize) -> Form
-    requires { ⌜ i < 10 ⌝ }
-    ensures { λ r. ⌜ fieldOf r ≡ fieldIn (accessKey ++ accessRest) i ⌝ }
-{
-    match i {
-        0 => Form::Name(1, 32),
-        1 => Form::Name(0, 32),
-        2 => Form::Large(0, 2147483647),
-        3 => Form::Small(1, 3),
-        4 => Form::Small(1, 2),
-        5 => Form::Name(0, 32),
-        6 => Form::Name(0, 32),
-        7 => Form::Name(0, 32),
-        8 => Form::Small(2, 5),
-        _ => Form::Small(1, 2),
-    }
-}
-
-// Name and subtree, then mask, type, storage, status.
-fn view_form(i: usize) -> Form
-    requires { ⌜ i < 6 ⌝ }
-    ensures { λ r. ⌜ fieldOf r ≡ fieldIn (viewKey ++ viewRest) i ⌝ }
-{
-    match i {
-        0 => Form::Name(1, 32),
-        1 => Form::Subtree(1, 64),
-        2 => Form::Name(0, 16),
-        3 => Form::Small(1, 2),
-        4 => Form::Small(2, 5),
-        _ => Form::Small(1, 2),
-    }
-}
-
-fn form_at(t: Table, i: usize) -> Form
-    requires { ⌜ i < length (rowFields t) ⌝ }
-    ensures { λ r. ⌜ fieldOf r ≡ fieldIn (rowFields t) i ⌝ }
-{
-    match t {
-        Table::Context => Form::Name(0, 32),
-        Table::Mapping => mapping_form(i),
-        Table::Access => access_form(i),
-        Table::View => view_form(i),
-    }
-}
-
-fn key_len(t: Table) -> usize
-    ensures { λ r. ⌜ r ≡ length (keyFields t) ⌝ }
-{
-    match t {
-        Table::Context => 1,
-        Table::Mapping => 2,
-        Table::Access => 4,
-        Table::View => 2,
-    }
-}
-
-fn row_len(t: Table) -> usize
-    ensures { λ r. ⌜ r ≡ length (rowFields t) ⌝ }
-{
-    match t {
-        Table::Context => 1,
-        Table::Mapping => 5,
-        Table::Access => 10,
-        Table::View => 6,
     }
 }
 
@@ -283,7 +192,7 @@ fn fields(t: Table, n: usize, line: &[u8], end: usize, out: &mut [u8]) -> Filled
         let Word::At(a, b) = next_word(line, e) else {
             return Filled::Malformed;
         };
-        let f = form_at(t, i);
+        let f = rows::form_at(t, i);
         let Filled::Upto(m) = field(f, &line[a..b], &mut out[k..]) else {
             return Filled::Malformed;
         };
@@ -302,7 +211,7 @@ pub fn key(t: Table, line: &[u8], end: usize, out: &mut [u8]) -> Filled
     requires { ⌜ (310 < length (now out)) × (length (now line) ≤ 2048) × (end ≤ length (now line)) ⌝ }
     ensures { λ r. ⌜ Fills r (now (out .exit)) (entry (keyFields t) (wordsAfter end (now (line .entry)))) ⌝ }
 {
-    fields(t, key_len(t), line, end, out)
+    fields(t, rows::key_len(t), line, end, out)
 }
 
 // The row that they say.
@@ -310,5 +219,5 @@ pub fn row(t: Table, line: &[u8], end: usize, out: &mut [u8]) -> Filled
     requires { ⌜ (310 < length (now out)) × (length (now line) ≤ 2048) × (end ≤ length (now line)) ⌝ }
     ensures { λ r. ⌜ Fills r (now (out .exit)) (entry (rowFields t) (wordsAfter end (now (line .entry)))) ⌝ }
 {
-    fields(t, row_len(t), line, end, out)
+    fields(t, rows::row_len(t), line, end, out)
 }

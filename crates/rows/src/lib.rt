@@ -3,10 +3,11 @@ use answers::Fault;
 ghost use mathlib.Core.Path.{_≡_};
 ghost use Prim.Native.Nat.{_+_, _*_, _≤_, _<_};
 ghost use lib.ListN.{length, drop, getD};
-ghost use mathlib.Core.List.{[]};
+ghost use mathlib.Core.List.{[], _++_};
 ghost use Rattle.rows.specs.Fields.{octet, word, number, within, faults};
 ghost use Rattle.rows.specs.declared.Table.the-variants.{Context, Mapping, Access, View};
-ghost use Rattle.rows.specs.Rows.{contextKey, mappingKey, mappingRest, accessKey, accessRest, viewKey, viewRest, keyFields, restFields};
+ghost use Rattle.rows.specs.Rows.{contextKey, mappingKey, mappingRest, accessKey, accessRest, viewKey, viewRest, keyFields, restFields, rowFields};
+ghost use Rattle.rows.specs.Forms.{fieldOf, fieldIn};
 ghost use Rattle.rows.specs.Judging.{reached, sequenceStep, integerStep, fieldsStep, keyStep, rowStep, KeyEnd, Fits, endsWell};
 
 // The tables, in document 01's order.
@@ -22,6 +23,103 @@ pub enum Step {
     At(usize),
     Bad(Fault),
 }
+
+// A field's form: a name or a mask, a subtree, a number of four bytes or of one; and its range, of octets, sub-identifiers or the number itself.
+pub enum Form {
+    Name(u8, u8),
+    Subtree(u8, u8),
+    Large(u32, u32),
+    Small(u8, u8),
+}
+
+// ---- the fields of each table, in their order
+
+// Model and name, then group, storage, status.
+fn mapping_form(i: usize) -> Form
+    requires { ⌜ i < 5 ⌝ }
+    ensures { λ r. ⌜ fieldOf r ≡ fieldIn (mappingKey ++ mappingRest) i ⌝ }
+{
+    match i {
+        0 => Form::Large(1, 2147483647),
+        1 => Form::Name(1, 32),
+        2 => Form::Name(1, 32),
+        3 => Form::Small(2, 5),
+        _ => Form::Small(1, 2),
+    }
+}
+
+// Group, prefix, model and level, then match, three view names, storage, status.
+fn access_form(i: usize) -> Form
+    requires { ⌜ i < 10 ⌝ }
+    ensures { λ r. ⌜ fieldOf r ≡ fieldIn (accessKey ++ accessRest) i ⌝ }
+{
+    match i {
+        0 => Form::Name(1, 32),
+        1 => Form::Name(0, 32),
+        2 => Form::Large(0, 2147483647),
+        3 => Form::Small(1, 3),
+        4 => Form::Small(1, 2),
+        5 => Form::Name(0, 32),
+        6 => Form::Name(0, 32),
+        7 => Form::Name(0, 32),
+        8 => Form::Small(2, 5),
+        _ => Form::Small(1, 2),
+    }
+}
+
+// Name and subtree, then mask, type, storage, status.
+fn view_form(i: usize) -> Form
+    requires { ⌜ i < 6 ⌝ }
+    ensures { λ r. ⌜ fieldOf r ≡ fieldIn (viewKey ++ viewRest) i ⌝ }
+{
+    match i {
+        0 => Form::Name(1, 32),
+        1 => Form::Subtree(1, 64),
+        2 => Form::Name(0, 16),
+        3 => Form::Small(1, 2),
+        4 => Form::Small(2, 5),
+        _ => Form::Small(1, 2),
+    }
+}
+
+// The form of the field at place `i` of a row.
+pub fn form_at(t: Table, i: usize) -> Form
+    requires { ⌜ i < length (rowFields t) ⌝ }
+    ensures { λ r. ⌜ fieldOf r ≡ fieldIn (rowFields t) i ⌝ }
+{
+    match t {
+        Table::Context => Form::Name(0, 32),
+        Table::Mapping => mapping_form(i),
+        Table::Access => access_form(i),
+        Table::View => view_form(i),
+    }
+}
+
+// How many fields a key has.
+pub fn key_len(t: Table) -> usize
+    ensures { λ r. ⌜ r ≡ length (keyFields t) ⌝ }
+{
+    match t {
+        Table::Context => 1,
+        Table::Mapping => 2,
+        Table::Access => 4,
+        Table::View => 2,
+    }
+}
+
+// How many fields a row has.
+pub fn row_len(t: Table) -> usize
+    ensures { λ r. ⌜ r ≡ length (rowFields t) ⌝ }
+{
+    match t {
+        Table::Context => 1,
+        Table::Mapping => 5,
+        Table::Access => 10,
+        Table::View => 6,
+    }
+}
+
+// ---- a row's bytes judged
 
 fn wide(x: u8) -> usize
     ensures { λ r. ⌜ (r ≡ x) × (r < 256) ⌝ }

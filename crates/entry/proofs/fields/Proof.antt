@@ -11,7 +11,7 @@ use borrow.Author.Needs.{needs}
 use Rattle.words.specs.Words.{between, Fills}
 use Rattle.rows.proofs.Bounds.{longestField}
 use Rattle.rows.specs.Rows.{rowFields}
-use Rattle.entry.specs.Reading.{roomOf, fieldIn}
+use Rattle.rows.specs.Forms.{roomOf, fieldIn}
 use Rattle.entry.specs.Entries.{fieldEntry, wordsAfter, entry}
 use Rattle.entry.proofs.Placing.{part-room, back}
 use Rattle.entry.proofs.Entering.{way-missing, way-bad, way-next, way-over, way-end, field-here, fields-gone, room-longest, OnWay, way-start}

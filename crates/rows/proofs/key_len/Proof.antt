@@ -1,8 +1,8 @@
--- `entry::row_len` meets its contract: in each arm the table is known, and so are its fields. Assumes nothing.
+-- `rows::key_len` meets its contract: in each arm the table is known, and so are its fields. Assumes nothing.
 use borrow.Author.Needs.{needs}
-use Rattle.rows.specs.Rows.{rowFields}
-use Rattle.entry.proofs.row_len.Statement.{statement}
-use Rattle.entry.proofs.row_len.Tie as tie
+use Rattle.rows.specs.Rows.{keyFields}
+use Rattle.rows.proofs.key_len.Statement.{statement}
+use Rattle.rows.proofs.key_len.Tie as tie
 
 enum-told : tie.Need-enum-told
 enum-told c = search needs
@@ -17,22 +17,22 @@ enum-told-4 : tie.Need-enum-told-4
 enum-told-4 c = search needs
 
 returns : tie.Need-returns
-unfolding rowFields
+unfolding keyFields
 returns c = rw (c .enum-told .given .1)
 
 returns-2 : tie.Need-returns-2
-unfolding rowFields
+unfolding keyFields
 returns-2 c = rw (c .enum-told2 .given .1)
 
 returns-3 : tie.Need-returns-3
-unfolding rowFields
+unfolding keyFields
 returns-3 c = rw (c .enum-told3 .given .1)
 
 returns-4 : tie.Need-returns-4
-unfolding rowFields
+unfolding keyFields
 returns-4 c = rw (c .enum-told4 .given .1)
 
-pub row-len-spec : {M : Type 1} → statement M
-row-len-spec =
+pub key-len-spec : {M : Type 1} → statement M
+key-len-spec =
     tie.close
     (tie.spec enum-told enum-told-2 enum-told-3 enum-told-4 returns returns-2 returns-3 returns-4)

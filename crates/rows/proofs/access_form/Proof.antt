@@ -1,10 +1,10 @@
--- `entry::access_form` meets its contract: where no other place is met the last is left. Assumes nothing.
+-- `rows::access_form` meets its contract: where no other place is met the last is left. Assumes nothing.
 use mathlib.Core.Path.{_≡_}
 use Prim.Native.Nat.{ℕ, _+_, _≤_, _<_}
 use native.Mathlib.Omega.{arith}
 use borrow.Author.Needs.{needs}
-use Rattle.entry.proofs.access_form.Statement.{statement}
-use Rattle.entry.proofs.access_form.Tie as tie
+use Rattle.rows.proofs.access_form.Statement.{statement}
+use Rattle.rows.proofs.access_form.Tie as tie
 
 -- past a key that was not met
 on : {k i : ℕ} → k ≤ i → (i ≡ k → ⊥) → k + 1 ≤ i

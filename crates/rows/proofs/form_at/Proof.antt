@@ -1,11 +1,11 @@
--- `entry::form_at` meets its contract: in each arm the table is known, and so are its fields. Assumes nothing.
+-- `rows::form_at` meets its contract: in each arm the table is known, and so are its fields. Assumes nothing.
 use mathlib.Core.Path.{_≡_}
 use Prim.Native.Nat.{_<_}
 use native.Mathlib.Omega.{arith}
 use borrow.Author.Needs.{needs}
 use Rattle.rows.specs.Rows.{rowFields}
-use Rattle.entry.proofs.form_at.Statement.{statement}
-use Rattle.entry.proofs.form_at.Tie as tie
+use Rattle.rows.proofs.form_at.Statement.{statement}
+use Rattle.rows.proofs.form_at.Tie as tie
 
 enum-told : tie.Need-enum-told
 enum-told c = search needs
