@@ -17,7 +17,8 @@ use Rattle.lists.specs.Lists.{any, OnSome}
 use Rattle.lists.specs.Order.{before}
 use Rattle.rows.specs.declared.Table.{Table}
 use Rattle.rows.specs.declared.Table.the-variants.{Context, Mapping, Access}
-use Rattle.rows.specs.Fields.{size, number, within, Field, sequence, integer, sequenceFault, integerFault, fault, taken, orElse, faults}
+use Rattle.big_endian.specs.BigEndian.{size, number}
+use Rattle.rows.specs.Fields.{within, Field, sequence, integer, sequenceFault, integerFault, fault, taken, orElse, faults}
 use Rattle.rows.specs.Rows.{rowFields}
 use Rattle.rows.specs.Tables.{Tables}
 use Rattle.image.specs.declared.Layout.{Layout}

@@ -15,7 +15,7 @@ ghost use Prim.Native.Nat.{_+_, _*_, _≤_};
 ghost use lib.ListN.{length, take};
 ghost use Rattle.lists.specs.Lists.{any, find, keep};
 ghost use Rattle.rows.specs.declared.Table.the-variants.{Context, Mapping, Access, View};
-ghost use Rattle.rows.specs.Fields.{word, bytesOf};
+ghost use Rattle.big_endian.specs.BigEndian.{quad, bytesOf};
 ghost use Rattle.rows.specs.Rows.{contextOf, mappingOf, accessOf, viewOf};
 ghost use Rattle.image.specs.Layout.{rowsIn};
 ghost use Rattle.image.specs.Image.{SoundTable, SoundLayout, tablesAt};
@@ -264,7 +264,7 @@ pub fn in_range(
 // The parts of an identifier, each in 4 bytes, big-endian.
 pub fn spell(parts: &[u32], out: &mut [u8; 512])
     requires { ⌜ (length (now parts) ≤ 128) × (length (now out) ≡ 512) ⌝ }
-    ensures { λ _. ⌜ take (4 * length (now (parts .entry))) (now (out .exit)) ≡ bytesOf word (now (parts .entry)) ⌝ }
+    ensures { λ _. ⌜ take (4 * length (now (parts .entry))) (now (out .exit)) ≡ bytesOf quad (now (parts .entry)) ⌝ }
 {
     let mut i = 0;
     let mut k = 0;

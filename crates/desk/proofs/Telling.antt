@@ -22,7 +22,8 @@ use Rattle.rows.specs.Tables.{Tables}
 use Rattle.rows.specs.Fields.{faults, values, rowBytes}
 use Rattle.rows.specs.Rows.{keyFields}
 use Rattle.rows.proofs.Sound.{cond-none}
-use Rattle.rows.proofs.Inverse.{Bytes, values-made}
+use Rattle.big_endian.specs.BigEndian.{Octets}
+use Rattle.rows.proofs.Inverse.{values-made}
 use Rattle.image.specs.Image.{tablesIn}
 use Rattle.image.specs.Store.{room, isSound, held}
 use Rattle.exchange.specs.Exchange.{imageEnd}
@@ -125,7 +126,7 @@ module _ (t : Table) (column : ℕ) (key found after : List ℕ) {r : Written} (
 abbrev pub instanceIs : Table → ℕ → List ℕ → List ℕ
 instanceIs t column key = instanceText ++ (decimalText column ++ (32 ∷ keyText t (values (keyFields t) key)))
 
-pub instance-fits : (t : Table) (column : ℕ) (key out : List ℕ) → Bytes key → faults (keyFields t) key ≡ none → 95000 ≤ length out
+pub instance-fits : (t : Table) (column : ℕ) (key out : List ℕ) → Octets key → faults (keyFields t) key ≡ none → 95000 ≤ length out
     → 0 + length (instanceIs t column key) ≤ length out
 instance-fits t column key out b h l =
     let k : List ℕ = keyText t (values (keyFields t) key) in
@@ -187,7 +188,7 @@ module _ (oid found after : List ℕ) where
 
 -- ---- an image
 
-held-short : (w : List ℕ) → Bytes w → (t : Tables) → held w ≡ some t → length (imageOf t) ≤ room
+held-short : (w : List ℕ) → Octets w → (t : Tables) → held w ≡ some t → length (imageOf t) ≤ room
 unfolding held
 held-short w b t e =
     by (isSound w)
@@ -197,7 +198,7 @@ held-short w b t e =
     omega (arith, ap (λ u. length (imageOf u)) z, length-again w b (s .rows-sound) (s .end-in), s .end-in, s .size-is))
     (λ h. let y : none ≡ some t = sym (cond-false _ _ h) ∙ e in absurd (Option·none-ne-some t y))
 
-module _ (w found after : List ℕ) (b : Bytes w) (l : length found ≡ room) where
+module _ (w found after : List ℕ) (b : Octets w) (l : length found ≡ room) where
   pub record Image (n : ℕ) : Type 0 where
     pub image-room : n ≤ length after
     pub image-few : length (take (n - 0) after) ≤ room

@@ -16,11 +16,13 @@ use Rattle.answers.specs.declared.Written.{Written}
 use Rattle.answers.specs.declared.Written.the-variants.{Length, Unwritten}
 use Rattle.rows.specs.declared.Table.{Table}
 use Rattle.rows.specs.declared.Table.the-variants.{Context, Mapping, Access, View}
-use Rattle.rows.specs.Fields.{size, Field, sequence, integer, fault, taken, value, faults, values, span, rowBytes, legals, indexField, index}
+use Rattle.big_endian.specs.BigEndian.{size, Octets}
+use Rattle.rows.specs.Fields.{Field, sequence, integer, fault, taken, value, faults, values, span, rowBytes, legals, indexField, index}
 use Rattle.rows.specs.Rows.{keyFields, rowFields}
 use Rattle.rows.specs.Tables.{Tables}
 use Rattle.rows.proofs.Appends.{restFields, row-split}
-use Rattle.rows.proofs.Inverse.{Bytes, bytes-front, legals-front, faults-made, values-made, length-numbers}
+use Rattle.rows.proofs.Inverse.{bytes-front, legals-front, faults-made, values-made}
+use Rattle.big_endian.proofs.BigEndian.{length-numbers}
 use Rattle.rows.proofs.Sound.{within-most, sequence-range, faults-first, faults-rest}
 use Rattle.procedure.specs.Request.{asked}
 use Rattle.procedure.specs.Decision.{decision}
@@ -30,7 +32,7 @@ use Rattle.edits.specs.Edits.{Caller, put, remove, indexOfEdit, judgemen
 
 -- ---- the key at a row's front
 
-module _ (t : Table) (row : List ℕ) (b : Bytes row) (f : faults (rowFields t) row ≡ none) where
+module _ (t : Table) (row : List ℕ) (b : Octets row) (f : faults (rowFields t) row ≡ none) where
   front-bytes : rowBytes (keyFields t) (values (keyFields t) row) ≡ rowKey t row
   front-bytes = bytes-front (keyFields t) (restFields t) row b (rw (row-split t) at f)
 

@@ -19,7 +19,7 @@ use Rattle.rows.specs.declared.Table.the-variants.{Context, Mapping, Access, Vi
 use Rattle.rows.specs.Fields.{faults}
 use Rattle.rows.specs.Rows.{keyFields, rowFields, limit, contextOf, mappingOf, accessOf, viewOf}
 use Rattle.rows.specs.Tables.{Tables}
-use Rattle.rows.proofs.Inverse.{Bytes}
+use Rattle.big_endian.specs.BigEndian.{Octets}
 use Rattle.image.specs.Image.{indexOf}
 use Rattle.exchange.specs.Exchange.{number, rowsBefore, isHeld, exchanged, exchangedIn}
 use Rattle.exchange.specs.Tables.{rowAt, putRow}
@@ -38,7 +38,7 @@ outcome r rows = record { answer = r; rows = rows }
 module _ {R : Type 0} (t : Table) (of : List ℕ → R) (indexR : R → List ℕ) (storage : R → ℕ) (n : ℕ) (e : (r : List ℕ) → indexR (of r) ≡ indexOf t r)
     (rs : List (List ℕ)) (a : Whole t rs) (s : Ascends (indexOf t) rs) where
   -- a row put
-  module _ (row : List ℕ) (b : Bytes row) (f : faults (rowFields t) row ≡ none) where
+  module _ (row : List ℕ) (b : Octets row) (f : faults (rowFields t) row ≡ none) where
     puts-over : {o : Option R} → rowAt indexR (indexOf t row) (map of rs) ≡ o → puts indexR storage n false (of row) (map of rs) ≡ putOver indexR storage n o false (of row) (map of rs)
     unfolding puts
     puts-over q = rw (e row, q)
@@ -70,7 +70,7 @@ module _ {R : Type 0} (t : Table) (of : List ℕ → R) (indexR : R → List ℕ
     puts-done l = split (isHeld (rowKey t row) rs) puts-held (λ h. puts-room h (l h))
 
   -- a row removed
-  module _ (key : List ℕ) (b : Bytes key) (f : faults (keyFields t) key ≡ none) where
+  module _ (key : List ℕ) (b : Octets key) (f : faults (keyFields t) key ≡ none) where
     removes-over : {o : Option R} → rowAt indexR (indexOf t key) (map of rs) ≡ o
         → removes indexR storage n false (indexOf t key) (map of rs) ≡ removeOver indexR storage n o false (indexOf t key) (map of rs)
     unfolding removes
@@ -103,7 +103,7 @@ abbrev pub changed : Table → ℕ → ℕ → List (List ℕ) → (Table → Li
 changed t i gone new rs = tables (λ u. exchangedIn t u i gone new (rs u))
 
 module _ (rs : Table → List (List ℕ)) (a : (t : Table) → Whole t (rs t)) (s : (t : Table) → Ascends (indexOf t) (rs t)) where
-  pub edit-put : (t : Table) (row : List ℕ) → Bytes row → faults (rowFields t) row ≡ none → (isHeld (rowKey t row) (rs t) ≡ false → length (rs t) < limit t)
+  pub edit-put : (t : Table) (row : List ℕ) → Octets row → faults (rowFields t) row ≡ none → (isHeld (rowKey t row) (rs t) ≡ false → length (rs t) < limit t)
       → edit false (tables rs) (put t row) ≡ outcome Done (changed t (rowsBefore (rowKey t row) (rs t)) (number (isHeld (rowKey t row) (rs t))) (row ∷ []) rs)
   unfolding edit
   edit-put Context row b f l =
@@ -115,7 +115,7 @@ module _ (rs : Table → List (List ℕ)) (a : (t : Table) → Whole t (rs t)) (
   edit-put View row b f l =
       ap (inViews (tables rs)) (puts-done View viewOf viewIndex (λ r. r .storageType) 96 view-index (rs View) (a View) (s View) row b f l)
 
-  pub edit-full : (t : Table) (row : List ℕ) → Bytes row → faults (rowFields t) row ≡ none → isHeld (rowKey t row) (rs t) ≡ false → limit t ≤ length (rs t)
+  pub edit-full : (t : Table) (row : List ℕ) → Octets row → faults (rowFields t) row ≡ none → isHeld (rowKey t row) (rs t) ≡ false → limit t ≤ length (rs t)
       → edit false (tables rs) (put t row) ≡ outcome (Faulty TableFull) (tables rs)
   unfolding edit
   edit-full Context row b f h l =
@@ -127,7 +127,7 @@ module _ (rs : Table → List (List ℕ)) (a : (t : Table) → Whole t (rs t)) (
   edit-full View row b f h l =
       ap (inViews (tables rs)) (puts-full View viewOf viewIndex (λ r. r .storageType) 96 view-index (rs View) (a View) (s View) row b f h l)
 
-  pub edit-removed : (t : Table) (key : List ℕ) → Bytes key → faults (keyFields t) key ≡ none → isHeld key (rs t) ≡ true
+  pub edit-removed : (t : Table) (key : List ℕ) → Octets key → faults (keyFields t) key ≡ none → isHeld key (rs t) ≡ true
       → edit false (tables rs) (remove t key) ≡ outcome Done (changed t (rowsBefore key (rs t)) 1 [] rs)
   unfolding edit indexOfEdit
   edit-removed Context key b f h =
@@ -139,7 +139,7 @@ module _ (rs : Table → List (List ℕ)) (a : (t : Table) → Whole t (rs t)) (
   edit-removed View key b f h =
       ap (inViews (tables rs)) (removes-done View viewOf viewIndex (λ r. r .storageType) 96 view-index (rs View) (a View) (s View) key b f h)
 
-  pub edit-absent : (t : Table) (key : List ℕ) → Bytes key → faults (keyFields t) key ≡ none → isHeld key (rs t) ≡ false
+  pub edit-absent : (t : Table) (key : List ℕ) → Octets key → faults (keyFields t) key ≡ none → isHeld key (rs t) ≡ false
       → edit false (tables rs) (remove t key) ≡ outcome (Faulty RowAbsent) (tables rs)
   unfolding edit indexOfEdit
   edit-absent Context key b f h =

@@ -16,10 +16,10 @@ use Rattle.lists.proofs.Bools.{clash, split, cond-map}
 use Rattle.lists.proofs.Greatest.{Ascends}
 use Rattle.rows.specs.declared.Table.{Table}
 use Rattle.rows.specs.declared.Table.the-variants.{Context, Mapping, Access, View}
-use Rattle.rows.specs.Fields.{Field, octet, integer, faults, values, span}
+use Rattle.rows.specs.Fields.{Field, integer, faults, values, span}
+use Rattle.big_endian.specs.BigEndian.{octet, Octets}
 use Rattle.rows.specs.Rows.{keyFields, rowFields, numberAt, mappingOf, accessOf, viewOf}
 use Rattle.rows.proofs.Appends.{values-append, faults-append}
-use Rattle.rows.proofs.Inverse.{Bytes}
 use Rattle.rows.proofs.Places.{getD-front}
 use Rattle.rows.proofs.Sound.{integer-room, faults-first, faults-rest, faults-end}
 use Rattle.image.specs.declared.Extent.{Extent}
@@ -147,7 +147,7 @@ module _ {R S : Type 0} (t : Table) (of : List ℕ → R) (indexR : R → List �
       ap (Option·map storage) (row-at t of indexR e k rs a s)
       ∙ split (isHeld key rs) (λ h. rw h (ap some (q _ (whole-held t key rs a h)))) (λ h. rw h)
 
-  puts-strict : (row : List ℕ) → Bytes row → faults (rowFields t) row ≡ none
+  puts-strict : (row : List ℕ) → Octets row → faults (rowFields t) row ≡ none
       → into (puts indexR storage n true (of row) (map of rs))
       ≡ cond (mayPut (storageFound (rowKey t row) rs) (storageIn row)) (into (puts indexR storage n false (of row) (map of rs))) (into (outcome (Faulty StorageForbids) (map of rs)))
   unfolding puts
@@ -160,7 +160,7 @@ module _ {R S : Type 0} (t : Table) (of : List ℕ → R) (indexR : R → List �
       (ap (λ i. Option·map storage (rowAt indexR i (map of rs))) (e row) ∙ storage-found (key-of-row t row b f)) (q row f))
       ∙ cond-map into (mayPut (storageFound (rowKey t row) rs) (storageIn row)) done not-done
 
-  removes-strict : (key : List ℕ) → Bytes key → faults (keyFields t) key ≡ none
+  removes-strict : (key : List ℕ) → Octets key → faults (keyFields t) key ≡ none
       → into (removes indexR storage n true (indexOf t key) (map of rs))
       ≡ cond (mayTake (storageFound key rs)) (into (removes indexR storage n false (indexOf t key) (map of rs))) (into (outcome (Faulty StorageForbids) (map of rs)))
   unfolding removes
@@ -175,7 +175,7 @@ module _ {R S : Type 0} (t : Table) (of : List ℕ → R) (indexR : R → List �
 -- ---- the tables that a principal edits
 
 module _ (rs : Table → List (List ℕ)) (a : (t : Table) → Whole t (rs t)) (s : (t : Table) → Ascends (indexOf t) (rs t)) where
-  pub edit-put-strict : (t : Table) → isContext t ≡ false → (row : List ℕ) → Bytes row → faults (rowFields t) row ≡ none
+  pub edit-put-strict : (t : Table) → isContext t ≡ false → (row : List ℕ) → Octets row → faults (rowFields t) row ≡ none
       → edit true (tables rs) (put t row)
       ≡ cond (mayPut (storageFound (rowKey t row) (rs t)) (storageIn row)) (edit false (tables rs) (put t row)) (outcome (Faulty StorageForbids) (tables rs))
   unfolding edit
@@ -187,7 +187,7 @@ module _ (rs : Table → List (List ℕ)) (a : (t : Table) → Whole t (rs t)) (
   edit-put-strict View n =
       puts-strict View viewOf viewIndex (λ r. r .storageType) 96 view-index view-storage (inViews (tables rs)) (rs View) (a View) (s View)
 
-  pub edit-remove-strict : (t : Table) → isContext t ≡ false → (key : List ℕ) → Bytes key → faults (keyFields t) key ≡ none
+  pub edit-remove-strict : (t : Table) → isContext t ≡ false → (key : List ℕ) → Octets key → faults (keyFields t) key ≡ none
       → edit true (tables rs) (remove t key)
       ≡ cond (mayTake (storageFound key (rs t))) (edit false (tables rs) (remove t key)) (outcome (Faulty StorageForbids) (tables rs))
   unfolding edit indexOfEdit

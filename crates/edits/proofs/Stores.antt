@@ -19,7 +19,7 @@ use Rattle.rows.specs.declared.Table.the-variants.{Context, Mapping, Access, Vi
 use Rattle.rows.specs.Fields.{faults, span}
 use Rattle.rows.specs.Rows.{keyFields, rowFields, limit}
 use Rattle.rows.specs.Tables.{Tables}
-use Rattle.rows.proofs.Inverse.{Bytes}
+use Rattle.big_endian.specs.BigEndian.{Octets}
 use Rattle.image.specs.declared.Layout.{Layout}
 use Rattle.image.specs.declared.Surveyed.the-variants.{Laid, Bad}
 use Rattle.image.specs.declared.Extent.{Extent}
@@ -144,8 +144,8 @@ module _ (f : Tables → Outcome Tables) (w : List ℕ) (h : isSound w ≡ true)
 
 -- ---- a row put or removed in a sound store
 
-module _ (t : Table) (w : List ℕ) (h : isSound w ≡ true) (b : Bytes w) where
-  module _ (row : List ℕ) (d : Bytes row) (f : faults (rowFields t) row ≡ none) {p : Place} (s : Sought w (extentOf t (layoutOf w)) (rowKey t row) p) where
+module _ (t : Table) (w : List ℕ) (h : isSound w ≡ true) (b : Octets w) where
+  module _ (row : List ℕ) (d : Octets row) (f : faults (rowFields t) row ≡ none) {p : Place} (s : Sought w (extentOf t (layoutOf w)) (rowKey t row) p) where
     -- the place says whether the row is held
     pub room-left : (p .held ≡ false → extentOf t (layoutOf w) .count < limit t) → isHeld (rowKey t row) (tableRows t w) ≡ false → length (tableRows t w) < limit t
     room-left l e = omega (arith, l (s .held-is ∙ e), length-rows w (extentOf t (layoutOf w)))
@@ -188,7 +188,7 @@ module _ (t : Table) (w : List ℕ) (h : isSound w ≡ true) (b : Bytes w) where
           → Edits (λ rows. edit true rows (put t row)) w after r
       put-permitted m k = edits-same (λ rows. edit true rows (put t row)) w h (λ rows. edit false rows (put t row)) (put-strict ∙ cond-true _ _ m) k
 
-  module _ (key : List ℕ) (d : Bytes key) (f : faults (keyFields t) key ≡ none) {p : Place} (s : Sought w (extentOf t (layoutOf w)) key p) where
+  module _ (key : List ℕ) (d : Octets key) (f : faults (keyFields t) key ≡ none) {p : Place} (s : Sought w (extentOf t (layoutOf w)) key p) where
     pub remove-asked : p .held ≡ true → {l : Layout} {x : Extent} {end : ℕ} → l ≡ layoutOf w → x ≡ extentOf t l → end ≡ endOf w (l .views)
         → (ImageIn w end × (x ≡ extentOf t (layoutOf w)) × PlaceIn w x p) × ((0 < 65536) × (end + 0 + 2 ≤ length w + (p .end - p .from) + 2 * number (p .held)))
     remove-asked n {l} {x} {end} q e v =

@@ -17,7 +17,8 @@ use Rattle.words.specs.Words.{between, Fills}
 use Rattle.words.proofs.Words.{Reads, reads-start, reads-none, reads-end}
 use Rattle.rows.specs.declared.Table.{Table}
 use Rattle.rows.specs.declared.Table.the-variants.{Context, Mapping, Access, View}
-use Rattle.rows.specs.Fields.{Field, integer, octet, fieldBytes, rowBytes, legal, legals, faults}
+use Rattle.rows.specs.Fields.{Field, integer, fieldBytes, rowBytes, legal, legals, faults}
+use Rattle.big_endian.specs.BigEndian.{octet}
 use Rattle.rows.specs.Rows.{keyFields, rowFields}
 use Rattle.rows.proofs.Inverse.{faults-made}
 use Rattle.rows.proofs.Bounds.{longestField, longest, bounded}

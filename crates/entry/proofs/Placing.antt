@@ -7,7 +7,7 @@ use native.Mathlib.Omega.{arith}
 use lib.ListN.{length, take, drop, set, getD, length-drop, drop-of-length-le}
 use lib.Seq.{length-take-le, take-all, take-append-le, take-append-add, drop-cons}
 use borrow.Rule.Slice.PartMut.{same-len-mid}
-use Rattle.rows.specs.Fields.{octet, word, bytes, bytesOf}
+use Rattle.big_endian.specs.BigEndian.{octet, quad, bytes, bytesOf}
 
 -- w, of which the part from k on was lent and came back as b
 abbrev pub back : ℕ → ℕ → List ℕ → List ℕ → List ℕ
@@ -56,14 +56,14 @@ pub record Spelt (parts w out : List ℕ) (i o : ℕ) : Type 0 where
   pub passed : i ≤ length parts
   pub place : o ≡ 4 * i
   pub same : length out ≡ length w
-  pub spelt : bytesOf word parts ≡ take o out ++ bytesOf word (drop i parts)
+  pub spelt : bytesOf quad parts ≡ take o out ++ bytesOf quad (drop i parts)
 
 pub spelt-start : (parts w : List ℕ) → Spelt parts w w 0 0
 spelt-start parts w = record { passed = omega arith; place = omega arith; same = refl; spelt = refl }
 
 module _ {parts w out : List ℕ} {i o : ℕ} (s : Spelt parts w out i o) (room : 4 * length parts ≤ length w) where
   pub spelt-next : i < length parts → (j : ℕ) (b : List ℕ) → length b ≡ length (take j (drop o out)) → 4 ≤ length b
-      → take 4 b ≡ bytes word (getD parts i 0) → Spelt parts w (back o j b out) (i + 1) (o + 4)
+      → take 4 b ≡ bytes quad (getD parts i 0) → Spelt parts w (back o j b out) (i + 1) (o + 4)
   spelt-next h j b e l q =
       let p = s .place in
       let k : o ≤ length out = omega (arith, s .same) in
@@ -74,13 +74,13 @@ module _ {parts w out : List ℕ} {i o : ℕ} (s : Spelt parts w out i o) (room 
         same = same-len-mid o j out b e ∙ s .same;
         spelt =
             s .spelt
-            ∙ ap (λ u. take o out ++ bytesOf word u) d
-            ∙ sym (append-assoc (take o out) (bytes word (getD parts i 0)) (bytesOf word (drop (i + 1) parts)))
-            ∙ ap (λ u. (take o out ++ u) ++ bytesOf word (drop (i + 1) parts)) (sym q)
-            ∙ ap (λ u. u ++ bytesOf word (drop (i + 1) parts)) (sym (back-front o 4 j b out k l));
+            ∙ ap (λ u. take o out ++ bytesOf quad u) d
+            ∙ sym (append-assoc (take o out) (bytes quad (getD parts i 0)) (bytesOf quad (drop (i + 1) parts)))
+            ∙ ap (λ u. (take o out ++ u) ++ bytesOf quad (drop (i + 1) parts)) (sym q)
+            ∙ ap (λ u. u ++ bytesOf quad (drop (i + 1) parts)) (sym (back-front o 4 j b out k l));
       }
 
-  pub spelt-end : length parts ≤ i → take (4 * length parts) out ≡ bytesOf word parts
+  pub spelt-end : length parts ≤ i → take (4 * length parts) out ≡ bytesOf quad parts
   spelt-end h =
       let e : i ≡ length parts = omega (arith, s .passed) in
       let n : 4 * length parts ≡ o = omega (arith, s .place) in

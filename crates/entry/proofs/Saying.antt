@@ -19,10 +19,11 @@ use Rattle.words.specs.declared.Filled.{Filled}
 use Rattle.words.specs.declared.Filled.the-variants.{Upto, Malformed}
 use Rattle.words.specs.Words.{split, digitsFrom, below32, decimal, also, dash, hexDigit, joined, hexPairs, hexOctets, decimals, dotted, Fills}
 use Rattle.words.proofs.Words.{joined-below}
-use Rattle.rows.specs.Fields.{Width, octet, word, size, bound, bytes, bytesOf, Field, sequence, integer, within, fieldBytes, fit, legal}
+use Rattle.big_endian.specs.BigEndian.{Width, octet, quad, size, bound, bytes, bytesOf, fit}
+use Rattle.rows.specs.Fields.{Field, sequence, integer, within, fieldBytes, legal}
 use Rattle.rows.proofs.Sound.{within-most}
 use Rattle.rows.proofs.Steps.{within-low, within-high, within-yes}
-use Rattle.rows.proofs.Inverse.{length-bytes, length-bytesOf}
+use Rattle.big_endian.proofs.BigEndian.{length-bytes, length-bytesOf}
 use Rattle.rows.proofs.Bounds.{longestField}
 use Rattle.entry.specs.Entries.{said, field, fieldEntry}
 use Rattle.entry.specs.Reading.{ranged}
@@ -92,7 +93,7 @@ unfolding decimal
 decimal-below [] x e = never e
 decimal-below (c ∷ cs) x e = below-most (digitsFrom 0 (c ∷ cs)) x e
 
-decimals-fit : (ps : List (List ℕ)) (x : List ℕ) → decimals ps ≡ some x → fit word x ≡ true
+decimals-fit : (ps : List (List ℕ)) (x : List ℕ) → decimals ps ≡ some x → fit quad x ≡ true
 unfolding decimals
 decimals-fit [] x e = let z : [] ≡ x = cc in rw (← z) refl
 decimals-fit (p ∷ ps) x e =
@@ -100,7 +101,7 @@ decimals-fit (p ∷ ps) x e =
     rw (q .makes)
     (and-both (lt-ltb (q .first) 4294967296 (decimal-below p (q .first) (q .first-is))) (decimals-fit ps (q .others) (q .others-are)))
 
-pub dotted-fit : (w x : List ℕ) → dotted w ≡ some x → fit word x ≡ true
+pub dotted-fit : (w x : List ℕ) → dotted w ≡ some x → fit quad x ≡ true
 unfolding dotted
 dotted-fit w x e =
     by (same w dash)
@@ -111,7 +112,7 @@ dotted-fit w x e =
 pub said-fit : (w : Width) (lo hi : ℕ) (v x : List ℕ) → said (sequence w lo hi) v ≡ some x → fit w x ≡ true
 unfolding said
 said-fit octet lo hi v x e = hex-fit v x e
-said-fit word lo hi v x e = dotted-fit v x e
+said-fit quad lo hi v x e = dotted-fit v x e
 
 -- ---- what the code reads into a buffer
 

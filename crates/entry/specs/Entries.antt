@@ -13,7 +13,8 @@ use Rattle.words.specs.Words.{words, decimal, hexOctets, dotted}
 use Rattle.texts.specs.Texts.{tableWord}
 use Rattle.rows.specs.declared.Table.{Table}
 use Rattle.rows.specs.declared.Table.the-variants.{Context, Mapping, Access, View}
-use Rattle.rows.specs.Fields.{Field, sequence, integer, octet, word, legal, fieldBytes, rowBytes}
+use Rattle.rows.specs.Fields.{Field, sequence, integer, legal, fieldBytes, rowBytes}
+use Rattle.big_endian.specs.BigEndian.{octet, quad}
 
 -- ---- the words behind the one that ends at e: none where the line ends there, too
 
@@ -34,7 +35,7 @@ andThen (some x) f = f x
 -- what a word says of a field
 unfoldable pub said : Field → List ℕ → Option (List ℕ)
 said (sequence octet lo hi) w = hexOctets w
-said (sequence word lo hi) w = dotted w
+said (sequence quad lo hi) w = dotted w
 said (integer width lo hi) w = Option·map (λ x. x ∷ []) (decimal w)
 
 -- in range

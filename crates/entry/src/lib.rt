@@ -7,7 +7,8 @@ ghost use mathlib.Core.Path.{_≡_};
 ghost use Prim.Native.Nat.{_+_, _*_, _≤_, _<_};
 ghost use lib.ListN.{length, take};
 ghost use Rattle.words.specs.Words.{decimal, numberOf, Fills};
-ghost use Rattle.rows.specs.Fields.{octet, word as Width·word, sequence, integer, bytes, bytesOf};
+ghost use Rattle.big_endian.specs.BigEndian.{octet, quad, bytes, bytesOf};
+ghost use Rattle.rows.specs.Fields.{sequence, integer};
 ghost use Rattle.rows.specs.Rows.{keyFields, rowFields};
 ghost use Rattle.rows.specs.Forms.{fieldOf, roomOf};
 ghost use Rattle.entry.specs.Entries.{wordsAfter, tableNamed, fieldEntry, entry};
@@ -62,7 +63,7 @@ pub fn table_named(word: &[u8]) -> Named
 // A number in four bytes, big-endian.
 fn put_word(x: u32, out: &mut [u8])
     requires { ⌜ 4 ≤ length (now out) ⌝ }
-    ensures { λ _. ⌜ take 4 (now (out .exit)) ≡ bytes Width·word x ⌝ }
+    ensures { λ _. ⌜ take 4 (now (out .exit)) ≡ bytes quad x ⌝ }
 {
     out[0] = (x / 16777216) as u8;
     out[1] = (x / 65536 % 256) as u8;
@@ -72,7 +73,7 @@ fn put_word(x: u32, out: &mut [u8])
 
 fn put_words(parts: &[u32], out: &mut [u8])
     requires { ⌜ 4 * length (now parts) ≤ length (now out) ⌝ }
-    ensures { λ _. ⌜ take (4 * length (now (parts .entry))) (now (out .exit)) ≡ bytesOf Width·word (now (parts .entry)) ⌝ }
+    ensures { λ _. ⌜ take (4 * length (now (parts .entry))) (now (out .exit)) ≡ bytesOf quad (now (parts .entry)) ⌝ }
 {
     let mut i = 0;
     let mut o = 0;
@@ -108,7 +109,7 @@ fn name(word: &[u8], lo: u8, hi: u8, out: &mut [u8]) -> Filled
 // A subtree of `lo` to `hi` sub-identifiers.
 fn subtree(word: &[u8], lo: u8, hi: u8, out: &mut [u8]) -> Filled
     requires { ⌜ (1 + 4 * hi < length (now out)) × (length (now word) ≤ 2048) ⌝ }
-    ensures { λ r. ⌜ Fills r (now (out .exit)) (fieldEntry (sequence Width·word lo hi) (now (word .entry))) ⌝ }
+    ensures { λ r. ⌜ Fills r (now (out .exit)) (fieldEntry (sequence quad lo hi) (now (word .entry))) ⌝ }
 {
     let mut parts = [0u32; 1024];
     let Filled::Upto(n) = words::dotted(word, &mut parts) else {
@@ -145,7 +146,7 @@ fn number(word: &[u8], lo: u32, hi: u32) -> Number
 // A number of four bytes.
 fn large(word: &[u8], lo: u32, hi: u32, out: &mut [u8]) -> Filled
     requires { ⌜ 4 < length (now out) ⌝ }
-    ensures { λ r. ⌜ Fills r (now (out .exit)) (fieldEntry (integer Width·word lo hi) (now (word .entry))) ⌝ }
+    ensures { λ r. ⌜ Fills r (now (out .exit)) (fieldEntry (integer quad lo hi) (now (word .entry))) ⌝ }
 {
     let Number::Of(x) = number(word, lo, hi) else {
         return Filled::Malformed;

@@ -15,7 +15,7 @@ use borrow.Author.Tests.{lt-ltb, eq-eqb, ne-eqb, eqb-true}
 use Rattle.lists.proofs.Bools.{split, test-ext}
 use Rattle.rows.specs.declared.Table.{Table}
 use Rattle.rows.specs.declared.Table.the-variants.{Context, Mapping, Access, View}
-use Rattle.rows.proofs.Inverse.{Bytes}
+use Rattle.big_endian.specs.BigEndian.{Octets}
 use Rattle.image.specs.declared.Extent.{Extent}
 use Rattle.image.specs.Layout.{total, lengthsIn, rowsIn, endOf, layoutOf}
 use Rattle.splice.specs.Splice.{splicedTwo}
@@ -84,7 +84,7 @@ pub count-below : (t : Table) → countAt t < 8
 count-below t = omega (arith, count-place t, position-below t)
 
 pub record Asked (t : Table) (w : List ℕ) (x : Extent) (p : Place) (end : ℕ) : Type 0 where
-  pub bytes : Bytes w
+  pub bytes : Octets w
   pub image-in : ImageIn w end
   pub extent-is : x ≡ extentOf t (layoutOf w)
   pub place-in : PlaceIn w x p

@@ -7,7 +7,8 @@ use Prim.Native.Nat.{ℕ, _+_, _*_, _≤_}
 use native.Mathlib.Omega.{arith}
 use lib.ListN.{length, take, drop, length-append, length-drop, take-append-drop}
 use lib.Seq.{drop-at, drop-drop}
-use Rattle.rows.proofs.Inverse.{Bytes, bytes-drop}
+use Rattle.big_endian.specs.BigEndian.{Octets}
+use Rattle.big_endian.proofs.BigEndian.{octets-drop}
 use Rattle.image.specs.Layout.{pairs, total, cut}
 use Rattle.exchange.specs.Exchange.{rowCount, imageEnd}
 use Rattle.exchange.proofs.Written.{joined, joined-inj, words, words-pairs, heads, length-heads, pairs-heads, total-lengths, cut-joined, lengths-cut, joined-cut}
@@ -42,13 +43,13 @@ module _ (w : List ℕ) (h : imageEnd w ≤ length w) where
 pub tables-count : (w : List ℕ) → rowCount w ≡ length (joined (tables w))
 tables-count w = sym (total-counts w) ∙ ap total (sym (lengths-tables w)) ∙ total-lengths (tables w)
 
-module _ (w : List ℕ) (b : Bytes w) (h : imageEnd w ≤ length w) where
+module _ (w : List ℕ) (b : Octets w) (h : imageEnd w ≤ length w) where
   counts-written : heads (tables w) ≡ take 8 w
   counts-written = ap words (lengths-tables w ∙ sym (counts-pairs w)) ∙ words-pairs 4 w b (omega arith)
 
   lengths-written : heads (joined (tables w)) ≡ take (2 * rowCount w) (drop 8 w)
   lengths-written =
-      ap words (lengths-are w h) ∙ words-pairs (rowCount w) (drop 8 w) (bytes-drop 8 w b) (omega (arith, length-drop 8 w))
+      ap words (lengths-are w h) ∙ words-pairs (rowCount w) (drop 8 w) (octets-drop 8 w b) (omega (arith, length-drop 8 w))
 
   rows-written : joined (joined (tables w)) ≡ take (total (lengths w)) (drop (8 + 2 * rowCount w) w)
   rows-written = ap joined (joined-tables w) ∙ joined-cut (lengths w) (drop (8 + 2 * rowCount w) w) (rows-there w h)

@@ -16,7 +16,9 @@ use Rattle.rows.specs.declared.Table.{Table}
 use Rattle.rows.specs.Fields.{Field, faults, span, values, index}
 use Rattle.rows.specs.Rows.{keyFields, rowFields}
 use Rattle.rows.proofs.Appends.{restFields, row-split}
-use Rattle.rows.proofs.Inverse.{Bytes, bytes-drop, bytes-take, bytes-front, legals-front, bytes-again, legals-read}
+use Rattle.big_endian.specs.BigEndian.{Octets}
+use Rattle.big_endian.proofs.BigEndian.{octets-drop, octets-take}
+use Rattle.rows.proofs.Inverse.{bytes-front, legals-front, bytes-again, legals-read}
 use Rattle.rows.proofs.Ordering.{Compares, compares-row, compares-same, compares-keys}
 use Rattle.image.specs.declared.Extent.{Extent}
 use Rattle.image.specs.Layout.{cut, lengthsIn, rowsIn}
@@ -63,16 +65,16 @@ pub record Keyed (t : Table) (key i r : List ℕ) : Type 0 where
 
 -- key is that of index i in table t
 abbrev pub KeyOf : Table → List ℕ → List ℕ → Type 0
-KeyOf t key i = (r : List ℕ) → Bytes r → faults (rowFields t) r ≡ none → Keyed t key i r
+KeyOf t key i = (r : List ℕ) → Octets r → faults (rowFields t) r ≡ none → Keyed t key i r
 
 -- the front of a whole row
-pub key-of-row : (t : Table) (row : List ℕ) → Bytes row → faults (rowFields t) row ≡ none → KeyOf t (take (span (keyFields t) row) row) (indexOf t row)
+pub key-of-row : (t : Table) (row : List ℕ) → Octets row → faults (rowFields t) row ≡ none → KeyOf t (take (span (keyFields t) row) row) (indexOf t row)
 key-of-row t row b f r d g =
     let c = compares-keys t r row d b g f in
     record { before-is = front-before r _ (span (keyFields t) r) c; same-is = front-same r _ (span (keyFields t) r) c }
 
 -- the fields of a key, and nothing over
-compares-key : (ps qs : List Field) (r key : List ℕ) → Bytes r → Bytes key → faults (ps ++ qs) r ≡ none → faults ps key ≡ none
+compares-key : (ps qs : List Field) (r key : List ℕ) → Octets r → Octets key → faults (ps ++ qs) r ≡ none → faults ps key ≡ none
     → Compares (take (span ps r) r) key (index ps (values ps r)) (index ps (values ps key))
 compares-key ps qs r key d b g f =
     rw (← bytes-front ps qs r d g)
@@ -81,7 +83,7 @@ compares-key ps qs r key d b g f =
     ap-key : {p q i j k : List ℕ} → q ≡ k → Compares p q i j → Compares p k i j
     ap-key e c = rw (← e) c
 
-pub key-of-key : (t : Table) (key : List ℕ) → Bytes key → faults (keyFields t) key ≡ none → KeyOf t key (indexOf t key)
+pub key-of-key : (t : Table) (key : List ℕ) → Octets key → faults (keyFields t) key ≡ none → KeyOf t key (indexOf t key)
 key-of-key t key b f r d g =
     let c = compares-key (keyFields t) (restFields t) r key d b (rw (row-split t) at g) f in
     record { before-is = front-before r key (span (keyFields t) r) c; same-is = front-same r key (span (keyFields t) r) c }
@@ -102,12 +104,12 @@ stands {t} {key} {i} {r} k =
 
 abbrev pub Whole : Table → List (List ℕ) → Type 0
 Whole t [] = Unit {0}
-Whole t (r ∷ rs) = Bytes r × (faults (rowFields t) r ≡ none) × Whole t rs
+Whole t (r ∷ rs) = Octets r × (faults (rowFields t) r ≡ none) × Whole t rs
 
-whole-cut : (t : Table) (prev ls v : List ℕ) → Bytes v → tableFault t prev (cut ls v) ≡ none → Whole t (cut ls v)
+whole-cut : (t : Table) (prev ls v : List ℕ) → Octets v → tableFault t prev (cut ls v) ≡ none → Whole t (cut ls v)
 whole-cut t prev [] v b h = tt
 whole-cut t prev (l ∷ ls) v b h =
-    (bytes-take l v b, whole-first t prev _ _ h, whole-cut t (indexOf t (take l v)) ls (drop l v) (bytes-drop l v b) (sound-rest t prev _ _ h))
+    (octets-take l v b, whole-first t prev _ _ h, whole-cut t (indexOf t (take l v)) ls (drop l v) (octets-drop l v b) (sound-rest t prev _ _ h))
 
-pub whole-rows : (t : Table) (w : List ℕ) (x : Extent) → Bytes w → tableFault t [] (rowsIn w x) ≡ none → Whole t (rowsIn w x)
-whole-rows t w x b h = whole-cut t [] (lengthsIn w x) (drop (x .rows) w) (bytes-drop (x .rows) w b) h
+pub whole-rows : (t : Table) (w : List ℕ) (x : Extent) → Octets w → tableFault t [] (rowsIn w x) ≡ none → Whole t (rowsIn w x)
+whole-rows t w x b h = whole-cut t [] (lengthsIn w x) (drop (x .rows) w) (octets-drop (x .rows) w b) h

@@ -15,7 +15,7 @@ use Rattle.rows.specs.declared.Table.the-variants.{Context, Mapping, Access, Vi
 use Rattle.rows.specs.Fields.{faults}
 use Rattle.rows.specs.Rows.{rowFields, limit}
 use Rattle.rows.proofs.Bounds.{longestRow, row-bounded}
-use Rattle.rows.proofs.Inverse.{Bytes}
+use Rattle.big_endian.specs.BigEndian.{Octets}
 use Rattle.image.specs.Layout.{pairs, total, endOf, count, layoutOf, laidOut}
 use Rattle.image.specs.Image.{tableFault, indexOf}
 use Rattle.image.specs.Store.{room, isSound}
@@ -72,7 +72,7 @@ rows-room w h few s =
     let b : (t : Table) → bytesOf w t ≤ limit t * longestRow t = λ t. bytes-most t (tableRows t w) (s t) (few t) in
     omega (arith, end-sum w h, room-sum (λ t. length (tableRows t w)) (bytesOf w) few b Context _ _ 0 0 0 0 (few Context) (b Context) (omega arith) (omega arith))
 
-module _ (t : Table) (w key v : List ℕ) (new : List (List ℕ)) (b : Bytes w) (s : SoundStore w) (k : KeyOf t key (indexOf t v)) (c : Comes t (indexOf t v) new)
+module _ (t : Table) (w key v : List ℕ) (new : List (List ℕ)) (b : Octets w) (s : SoundStore w) (k : KeyOf t key (indexOf t v)) (c : Comes t (indexOf t v) new)
     (f : length (tableRows t w) + length new ≤ limit t + number (isHeld key (tableRows t w))) where
   room-after : let rs = tableRows t w in let n = number (isHeld key rs) in
       imageEnd w + length (joined new) + 2 * length new ≤ length w + length (joined (take n (drop (rowsBefore key rs) rs))) + 2 * n
@@ -118,7 +118,7 @@ longest-most Mapping = omega arith
 longest-most Access = omega arith
 longest-most View = omega arith
 
-module _ (t : Table) (w row : List ℕ) (h : isSound w ≡ true) (b : Bytes w) (d : Bytes row) (f : faults (rowFields t) row ≡ none)
+module _ (t : Table) (w row : List ℕ) (h : isSound w ≡ true) (b : Octets w) (d : Octets row) (f : faults (rowFields t) row ≡ none)
     (n : isHeld (rowKey t row) (tableRows t w) ≡ false → length (tableRows t w) < limit t) where
   pub room-for : {p : Place} {end : ℕ} → ImageIn w end → Sought w (extentOf t (layoutOf w)) (rowKey t row) p
       → (length row < 65536) × (end + length row + 2 ≤ length w + (p .end - p .from) + 2 * number (p .held))

@@ -18,7 +18,7 @@ use Rattle.rows.specs.declared.Table.{Table}
 use Rattle.rows.specs.declared.Table.the-variants.{Context, Mapping, Access, View}
 use Rattle.rows.specs.Fields.{faults, span}
 use Rattle.rows.specs.Rows.{keyFields, rowFields, limit}
-use Rattle.rows.proofs.Inverse.{Bytes}
+use Rattle.big_endian.specs.BigEndian.{Octets}
 use Rattle.image.specs.declared.Extent.{Extent}
 use Rattle.image.specs.Layout.{Inside, rowsIn, count, withinLimits, layoutOf, laidOut}
 use Rattle.image.specs.Image.{tableFault, rowsFault, indexOf}
@@ -109,7 +109,7 @@ sound-inside t w h =
     let l = limit-most t in
     (table-inside t w (tests w h .2), omega (arith, few-rows w h t, length-rows w (extentOf t (layoutOf w))))
 
-pub sound-whole : (t : Table) (w : List ℕ) → isSound w ≡ true → Bytes w → Whole t (tableRows t w)
+pub sound-whole : (t : Table) (w : List ℕ) → isSound w ≡ true → Octets w → Whole t (tableRows t w)
 sound-whole t w h b = whole-rows t w (extentOf t (layoutOf w)) b (sound-table w h t)
 
 pub sound-ascends : (t : Table) (w : List ℕ) → isSound w ≡ true → Ascends (indexOf t) (tableRows t w)
@@ -145,7 +145,7 @@ each-table {t} {i} {gone} {new} {found} P e p q u =
 -- ---- soundness is kept
 
 -- rows of table t exchanged at the place of a key of v's index
-module _ (t : Table) (w key v : List ℕ) (new : List (List ℕ)) (b : Bytes w) (s : SoundStore w) (k : KeyOf t key (indexOf t v)) (c : Comes t (indexOf t v) new) where
+module _ (t : Table) (w key v : List ℕ) (new : List (List ℕ)) (b : Octets w) (s : SoundStore w) (k : KeyOf t key (indexOf t v)) (c : Comes t (indexOf t v) new) where
   abbrev rows : List (List ℕ)
   rows = tableRows t w
 
@@ -185,14 +185,14 @@ sought-exchanges s e = rw (← s .row-is, ← s .held-is) e
 abbrev pub rowKey : Table → List ℕ → List ℕ
 rowKey t row = take (span (keyFields t) row) row
 
-pub one-row : (t : Table) (row : List ℕ) → Bytes row → faults (rowFields t) row ≡ none → oneRow row ≡ row ∷ []
+pub one-row : (t : Table) (row : List ℕ) → Octets row → faults (rowFields t) row ≡ none → oneRow row ≡ row ∷ []
 unfolding before
 one-row t [] b f = clash (index-some t []) (sym (stands-nil t [] b f) ∙ ap (before []) (take-nil (span (keyFields t) [])))
 one-row t (x ∷ row) b f = refl
 
 -- ---- a whole row put, where it is held or the table has room
 
-module _ (t : Table) (w row : List ℕ) (h : isSound w ≡ true) (b : Bytes w) (d : Bytes row) (f : faults (rowFields t) row ≡ none)
+module _ (t : Table) (w row : List ℕ) (h : isSound w ≡ true) (b : Octets w) (d : Octets row) (f : faults (rowFields t) row ≡ none)
     (n : isHeld (rowKey t row) (tableRows t w) ≡ false → length (tableRows t w) < limit t) where
   pub one-more : length (tableRows t w) + 1 ≤ limit t + number (isHeld (rowKey t row) (tableRows t w))
   one-more = split (isHeld (rowKey t row) (tableRows t w)) (λ e. rw e (omega (arith, store-sound w h .few t))) (λ e. rw e (omega (arith, n e)))
@@ -203,7 +203,7 @@ module _ (t : Table) (w row : List ℕ) (h : isSound w ≡ true) (b : Bytes w) (
 
 -- ---- a row removed
 
-pub sound-removed : (t : Table) (w key : List ℕ) → isSound w ≡ true → Bytes w → Bytes key → faults (keyFields t) key ≡ none → {after : List ℕ}
+pub sound-removed : (t : Table) (w key : List ℕ) → isSound w ≡ true → Octets w → Octets key → faults (keyFields t) key ≡ none → {after : List ℕ}
     → Exchanges t (rowsBefore key (tableRows t w)) (number (isHeld key (tableRows t w))) [] w after → isSound after ≡ true
 sound-removed t w key h b d f {after} e =
     sound-exchanged t w key key [] b (store-sound w h) (key-of-key t key d f) nothing (omega (arith, store-sound w h .few t)) after e

@@ -17,7 +17,7 @@ use Rattle.rows.specs.declared.Table.{Table}
 use Rattle.rows.specs.declared.Table.the-variants.{Context, Mapping, Access, View}
 use Rattle.rows.specs.Fields.{faults, index}
 use Rattle.rows.specs.Rows.{keyFields, rowFields, contextKey, contextFields, contextOf, mappingKey, mappingFields, mappingOf, accessKey, accessFields, accessOf, viewKey, viewFields, viewOf}
-use Rattle.rows.proofs.Inverse.{Bytes}
+use Rattle.big_endian.specs.BigEndian.{Octets}
 use Rattle.image.specs.Image.{indexOf}
 use Rattle.exchange.specs.Exchange.{number, rowsBefore, isHeld, exchanged}
 use Rattle.exchange.specs.Tables.{rowAt, putRow, removeRow}
@@ -57,7 +57,7 @@ module _ {R : Type 0} (of : List ℕ → R) (indexR : R → List ℕ) where
 
 -- rows of table t, read as rows whose index is the one that their bytes hold, and the key of index i
 module _ (t : Table) {R : Type 0} (of : List ℕ → R) (indexR : R → List ℕ) (e : (r : List ℕ) → indexR (of r) ≡ indexOf t r) {key i : List ℕ} (k : KeyOf t key i) where
-  stand : (r : List ℕ) → Bytes r → faults (rowFields t) r ≡ none → Stand key i r (indexR (of r))
+  stand : (r : List ℕ) → Octets r → faults (rowFields t) r ≡ none → Stand key i r (indexR (of r))
   stand r b f = subst (λ j. Stand key i r j) (sym (e r)) (stands (k r b f))
 
   pub put-rows : (row : List ℕ) → indexOf t row ≡ i → (rs : List (List ℕ)) → Whole t rs

@@ -7,7 +7,8 @@ use Prim.Native.Nat.{ℕ, zero, suc, _+_, _*_, _/_, _%_, _≤_, _<_}
 use native.Mathlib.Omega.{arith}
 use lib.ListN.{length, take, drop, set, length-append, length-drop, length-map}
 use lib.Seq.{append-snoc, set-at, take-add, take-at, drop-at, drop-drop, length-take-le}
-use Rattle.rows.proofs.Inverse.{Bytes, bytes-drop}
+use Rattle.big_endian.specs.BigEndian.{Octets}
+use Rattle.big_endian.proofs.BigEndian.{octets-drop}
 use Rattle.image.specs.Layout.{pair, pairs, total, cut}
 pub use Rattle.image.specs.Written.{words, joined, heads}
 
@@ -42,7 +43,7 @@ pairs-words (n ∷ ns) v =
     let e : n / 256 * 256 + n % 256 ≡ n = omega arith in
     ap₂ (λ m l. m ∷ l) e (pairs-words ns v)
 
-two-bytes : (v : List ℕ) → Bytes v → 2 ≤ length v → words (pair v ∷ []) ≡ take 2 v
+two-bytes : (v : List ℕ) → Octets v → 2 ≤ length v → words (pair v ∷ []) ≡ take 2 v
 two-bytes [] b h = absurd (omega arith)
 two-bytes (x ∷ []) b h = absurd (omega arith)
 two-bytes (x ∷ y ∷ v) b h =
@@ -51,11 +52,11 @@ two-bytes (x ∷ y ∷ v) b h =
     let q : (x * 256 + y) % 256 ≡ y = omega arith in
     cc
 
-pub words-pairs : (n : ℕ) (v : List ℕ) → Bytes v → 2 * n ≤ length v → words (pairs n v) ≡ take (2 * n) v
+pub words-pairs : (n : ℕ) (v : List ℕ) → Octets v → 2 * n ≤ length v → words (pairs n v) ≡ take (2 * n) v
 words-pairs zero v b h = refl
 words-pairs (suc n) v b h =
     let e : 2 + 2 * n ≡ 2 * suc n = omega arith in
-    let i = words-pairs n (drop 2 v) (bytes-drop 2 v b) (omega (arith, length-drop 2 v)) in
+    let i = words-pairs n (drop 2 v) (octets-drop 2 v b) (omega (arith, length-drop 2 v)) in
     ap₂ (λ p q. p ++ q) (two-bytes v b (omega arith)) i ∙ sym (take-add 2 (2 * n) v) ∙ ap (λ m. take m v) e
 
 -- the lengths of lists, so written

@@ -18,12 +18,13 @@ use Rattle.rows.specs.Rows.{keyFields, rowFields}
 use Rattle.rows.specs.Judging.{reached, rowStep}
 use Rattle.rows.specs.declared.Step.{Step}
 use Rattle.rows.specs.declared.Step.the-variants.{At}
-use Rattle.rows.proofs.Inverse.{Bytes, bytes-drop}
+use Rattle.big_endian.specs.BigEndian.{Octets}
+use Rattle.big_endian.proofs.BigEndian.{octets-drop}
 use Rattle.image.specs.declared.Extent.{Extent}
 use Rattle.image.specs.Layout.{pair, rowsIn, endOf}
 use Rattle.image.specs.Image.{indexOf, tableFault}
 use Rattle.image.proofs.Walks.{piece, piece-nil, piece-add, rest, Walk, rest-next, rest-end, walk-end}
-use Rattle.image.proofs.Keys.{Stands, stands-nil, stands-row, bytes-take, key-room, key-above-nil}
+use Rattle.image.proofs.Keys.{Stands, stands-nil, stands-row, octets-take, key-room, key-above-nil}
 use Rattle.image.proofs.Sound.{reached-at, reached-bad, fault-nil, fault-row, fault-order, fault-rest}
 
 pub record Judged (t : Table) (w : List ℕ) (x : Extent) (i o a e : ℕ) : Type 0 where
@@ -36,7 +37,7 @@ judged-start t w x a = record { prev = []; stands = rw (piece-nil w a) (stands-n
 
 -- the next row, of length l, judged with the answer s
 pub record Turn (t : Table) (w : List ℕ) (x : Extent) (i g o a e l : ℕ) (s : Step) : Type 0 where
-  pub bytes : Bytes w
+  pub bytes : Octets w
   pub walk : Walk w x i g o
   pub judged : Judged t w x i o a e
   pub more : i < x .count
@@ -64,8 +65,8 @@ module _ {t : Table} {w : List ℕ} {x : Extent} {i g o a e l : ℕ} {s : Step} 
     passed : (faults (rowFields t) row ≡ none) × (span (keyFields t) row ≡ z)
     passed = reached-at _ _ z (answer ∙ p)
 
-    row-bytes : Bytes row
-    row-bytes = bytes-take l (drop o w) (bytes-drop o w (n .bytes))
+    row-bytes : Octets row
+    row-bytes = octets-take l (drop o w) (octets-drop o w (n .bytes))
 
     pub key-within : z ≤ l
     key-within = omega (arith, key-room t row (passed .0), passed .1, length-take l (drop o w))

@@ -16,18 +16,18 @@ use Rattle.rows.specs.declared.Table.the-variants.{Context, Mapping, Access, Vi
 use Rattle.rows.specs.Fields.{Field, sequence, integer, taken, values, index, faults, span}
 use Rattle.rows.specs.Rows.{contextKey, contextRest, mappingKey, mappingRest, accessKey, accessRest, viewKey, viewRest, keyFields, rowFields}
 use Rattle.rows.proofs.Appends.{span-room}
-use Rattle.rows.proofs.Inverse.{Bytes}
+use Rattle.big_endian.specs.BigEndian.{Octets}
 use Rattle.rows.proofs.Ordering.{compares-keys, compares-before}
 use Rattle.rows.proofs.Places.{size-some}
 use Rattle.image.specs.Image.{indexOf}
 
 -- ---- bytes
 
-pub bytes-take : (n : ℕ) (v : List ℕ) → Bytes v → Bytes (take n v)
-bytes-take zero v b i = omega arith
-bytes-take (suc n) [] b i = b i
-bytes-take (suc n) (x ∷ v) b zero = b 0
-bytes-take (suc n) (x ∷ v) b (suc i) = bytes-take n v (λ j. b (suc j)) i
+pub octets-take : (n : ℕ) (v : List ℕ) → Octets v → Octets (take n v)
+octets-take zero v b i = omega arith
+octets-take (suc n) [] b i = b i
+octets-take (suc n) (x ∷ v) b zero = b 0
+octets-take (suc n) (x ∷ v) b (suc i) = octets-take n v (λ j. b (suc j)) i
 
 -- ---- keys are not empty
 
@@ -55,7 +55,7 @@ before-nil-index (integer w lo hi) ks v = refl
 -- ---- a key stands for an index
 
 abbrev pub Stands : Table → List ℕ → List ℕ → Type 0
-Stands t k p = (v : List ℕ) → Bytes v → faults (rowFields t) v ≡ none → before k (take (span (keyFields t) v) v) ≡ before p (indexOf t v)
+Stands t k p = (v : List ℕ) → Octets v → faults (rowFields t) v ≡ none → before k (take (span (keyFields t) v) v) ≡ before p (indexOf t v)
 
 stands-front : (k : Field) (ks qs : List Field) (v : List ℕ) → faults ((k ∷ ks) ++ qs) v ≡ none
     → before [] (take (span (k ∷ ks) v) v) ≡ before [] (index (k ∷ ks) (values (k ∷ ks) v))
@@ -76,7 +76,7 @@ key-above-nil Mapping v f = before-nil-front _ _ mappingRest v f
 key-above-nil Access v f = before-nil-front _ _ accessRest v f
 key-above-nil View v f = before-nil-front _ _ viewRest v f
 
-pub stands-row : (t : Table) (u : List ℕ) → Bytes u → faults (rowFields t) u ≡ none → Stands t (take (span (keyFields t) u) u) (indexOf t u)
+pub stands-row : (t : Table) (u : List ℕ) → Octets u → faults (rowFields t) u ≡ none → Stands t (take (span (keyFields t) u) u) (indexOf t u)
 stands-row t u b f v d g = compares-before (compares-keys t u v b d f g)
 
 -- a key lies within its row

@@ -12,7 +12,8 @@ use Rattle.rows.specs.declared.Table.{Table}
 use Rattle.rows.specs.declared.Table.the-variants.{Context, Mapping, Access, View}
 use Rattle.rows.specs.Fields.{faults, rowBytes}
 use Rattle.rows.specs.Rows.{rowFields, contextOf, mappingOf, accessOf, viewOf}
-use Rattle.rows.proofs.Inverse.{Bytes, bytes-again}
+use Rattle.big_endian.specs.BigEndian.{Octets}
+use Rattle.rows.proofs.Inverse.{bytes-again}
 use Rattle.rows.proofs.Typed.{context-fields, mapping-fields, access-fields, view-fields}
 use Rattle.image.specs.Layout.{layoutOf}
 use Rattle.image.specs.Image.{tableFault, tablesAt, tablesIn}
@@ -26,7 +27,7 @@ use Rattle.imaging.specs.Imaging.{contextBytes, mappingBytes, accessByte
 -- ---- rows
 
 -- one row
-module _ (v : List ℕ) (b : Bytes v) where
+module _ (v : List ℕ) (b : Octets v) where
   context-again : faults (rowFields Context) v ≡ none → contextBytes (contextOf v) ≡ v
   context-again h = ap (rowBytes (rowFields Context)) (context-fields v) ∙ bytes-again (rowFields Context) v b h
 
@@ -40,7 +41,7 @@ module _ (v : List ℕ) (b : Bytes v) where
   view-again h = ap (rowBytes (rowFields View)) (view-fields v) ∙ bytes-again (rowFields View) v b h
 
 -- the rows of a table
-table-again : {R : Type 0} (t : Table) (of : List ℕ → R) (bytes : R → List ℕ) → ((v : List ℕ) → Bytes v → faults (rowFields t) v ≡ none → bytes (of v) ≡ v)
+table-again : {R : Type 0} (t : Table) (of : List ℕ → R) (bytes : R → List ℕ) → ((v : List ℕ) → Octets v → faults (rowFields t) v ≡ none → bytes (of v) ≡ v)
     → (rs : List (List ℕ)) → Whole t rs → map bytes (map of rs) ≡ rs
 table-again t of bytes again [] a = refl
 table-again t of bytes again (r ∷ rs) a = ap₂ (λ x xs. x ∷ xs) (again r (a .0) (a .1)) (table-again t of bytes again rs (a .2))
@@ -51,7 +52,7 @@ table-again t of bytes again (r ∷ rs) a = ap₂ (λ x xs. x ∷ xs) (again r (
 pub image-rest : (ts : List (List (List ℕ))) (rest : List ℕ) → (heads ts ++ (heads (joined ts) ++ joined (joined ts))) ++ rest ≡ image ts rest
 image-rest ts rest = simp append-assoc
 
-module _ (w : List ℕ) (b : Bytes w) (s : (t : Table) → tableFault t [] (tableRows t w) ≡ none) where
+module _ (w : List ℕ) (b : Octets w) (s : (t : Table) → tableFault t [] (tableRows t w) ≡ none) where
   whole : (t : Table) → Whole t (tableRows t w)
   whole t = whole-rows t w (extentOf t (layoutOf w)) b (s t)
 

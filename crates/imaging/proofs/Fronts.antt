@@ -12,7 +12,7 @@ use Rattle.lists.proofs.Bools.{cond-true}
 use Rattle.rows.specs.declared.Table.{Table}
 use Rattle.rows.specs.Rows.{contextOf, mappingOf, accessOf, viewOf}
 use Rattle.rows.specs.Tables.{Tables}
-use Rattle.rows.proofs.Inverse.{Bytes}
+use Rattle.big_endian.specs.BigEndian.{Octets}
 use Rattle.image.specs.Image.{tablesAt, tablesIn}
 use Rattle.image.specs.Store.{room, isSound, held}
 use Rattle.image.specs.Written.{joined}
@@ -48,7 +48,7 @@ module _ (v w : List ℕ) (e : tables v ≡ tables w) where
 
 -- ---- an accepted image
 
-module _ (w : List ℕ) (b : Bytes w) (a : Accepted w) where
+module _ (w : List ℕ) (b : Octets w) (a : Accepted w) where
   pub accepted-again : imageOf (tablesIn w) ≡ w
   accepted-again =
       let e : drop (imageEnd w) w ≡ [] = ap (λ n. drop n w) (a .end-is) ∙ drop-length w in
@@ -79,7 +79,7 @@ module _ (w : List ℕ) (b : Bytes w) (a : Accepted w) where
 length-image : (ts : List (List (List ℕ))) → length (image ts []) ≡ 2 * length ts + (2 * length (joined ts) + length (joined (joined ts)))
 length-image ts = simp (length-append, length-heads, append-nil)
 
-module _ (w : List ℕ) (b : Bytes w) (s : SoundStore w) where
+module _ (w : List ℕ) (b : Octets w) (s : SoundStore w) where
   abbrev v : List ℕ
   v = imageOf (tablesIn w)
 

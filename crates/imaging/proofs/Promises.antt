@@ -12,7 +12,7 @@ use Rattle.answers.specs.declared.Fault.{Fault}
 use Rattle.answers.specs.declared.Fault.the-variants.{NotSound, TooShort}
 use Rattle.answers.specs.declared.Written.the-variants.{Length, Unwritten}
 use Rattle.lists.proofs.Bools.{cond-true}
-use Rattle.rows.proofs.Inverse.{Bytes}
+use Rattle.big_endian.specs.BigEndian.{Octets}
 use Rattle.image.specs.declared.Extent.{Extent}
 use Rattle.image.specs.declared.Layout.{Layout}
 use Rattle.image.specs.Layout.{Inside, endOf, layoutOf, laidOut}
@@ -33,7 +33,7 @@ use Rattle.imaging.proofs.Parts.{length-overlaid, paste-front, overlaid
 pub reads-refused : (image found : List ℕ) (f : Fault) → imageFault image ≡ some f → Reads image found found (Faulty f)
 reads-refused image found f e = record { answer-is = rw e; store-is = rw e; rows-are = λ d. cc }
 
-pub reads-done : (image found : List ℕ) {after : List ℕ} → Bytes image → length found ≡ room → imageFault image ≡ none
+pub reads-done : (image found : List ℕ) {after : List ℕ} → Octets image → length found ≡ room → imageFault image ≡ none
     → after ≡ paste found 0 image (length image) → Reads image found after Done
 reads-done image found {after} b s e p =
     let q : after ≡ overlaid image found = p ∙ paste-front image found in
@@ -67,7 +67,7 @@ module _ (w found : List ℕ) where
   unfolding held
   writes-unsound h = record { answer-is = rw h; buffer-is = rw h }
 
-  module _ (b : Bytes w) (h : isSound w ≡ true) where
+  module _ (b : Octets w) (h : isSound w ≡ true) where
     held-is : held w ≡ some (tablesIn w)
     unfolding held
     held-is = cond-true _ _ h

@@ -6,16 +6,13 @@ use Prim.Native.Nat.{ℕ, _≤_, _<_}
 use lib.ListN.{length, take, getD}
 use Rattle.answers.specs.declared.Written.{Written}
 use Rattle.answers.specs.declared.Written.the-variants.{Length}
+use Rattle.big_endian.specs.BigEndian.{Octets}
 use Rattle.rows.specs.Tables.{Tables}
 use Rattle.image.specs.Image.{imageFault, tablesIn}
 use Rattle.image.specs.Store.{held}
 use Rattle.imaging.specs.declared.Loaded.{Loaded}
 use Rattle.imaging.specs.declared.Loaded.the-variants.{Done}
 use Rattle.imaging.specs.Imaging.{imageOf, overlaid, Reads, Writes}
-
--- as stores, images and buffers are
-abbrev pub Octets : List ℕ → Type 0
-Octets w = (i : ℕ) → getD w i 0 < 256
 
 -- ---- rows
 

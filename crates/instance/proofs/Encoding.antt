@@ -17,14 +17,15 @@ use Rattle.answers.specs.declared.Written.the-variants.{Length, Unwritten}
 use Rattle.lists.proofs.Bools.{and-false-right}
 use Rattle.rows.specs.declared.Table.{Table}
 use Rattle.rows.specs.declared.Table.the-variants.{Context, Mapping, Access, View}
-use Rattle.rows.specs.Fields.{size, word, numbers, Field, sequence, integer, fault, taken, value, faults, values, indexField, index}
+use Rattle.big_endian.specs.BigEndian.{size, quad, numbers}
+use Rattle.rows.specs.Fields.{Field, sequence, integer, fault, taken, value, faults, values, indexField, index}
 use Rattle.rows.specs.Rows.{keyFields}
-use Rattle.rows.proofs.Inverse.{length-numbers}
+use Rattle.big_endian.proofs.BigEndian.{length-numbers}
 use Rattle.rows.proofs.Sound.{within-most, sequence-range, faults-first, faults-rest}
 use Rattle.instance.specs.Instances.{base, instance, lists, keyIndex, encodeFault, Encodes}
 use Rattle.instance.specs.Runs.{wordsFrom, wordsIn, runs}
 use Rattle.instance.proofs.Keys.{key-runs}
-use Rattle.instance.proofs.Laying.{parts-three}
+use Rattle.lists.proofs.Laid.{parts-three}
 
 -- three parts fewer than bytes for each number of four bytes
 pub index-length : (t : Table) (key : List ℕ) → faults (keyFields t) key ≡ none → length (keyIndex t key) + 3 * wordsIn t key ≡ length key
@@ -32,7 +33,7 @@ index-length t key h =
     let r = key-runs t key h in
     let from = wordsFrom t key in
     let words = wordsIn t key in
-    let m = numbers word words (drop from key) in
+    let m = numbers quad words (drop from key) in
     let e : length (keyIndex t key) ≡ length (runs from words key) = ap length (r .index-is) in
     omega (
       arith,
@@ -41,7 +42,7 @@ index-length t key h =
       length-append (take from key) (m ++ drop (from + 4 * words) key),
       length-append m (drop (from + 4 * words) key),
       length-take-le from key (omega (arith, r .room)),
-      length-numbers word words (drop from key),
+      length-numbers quad words (drop from key),
       length-drop (from + 4 * words) key,
     )
 
@@ -91,8 +92,8 @@ module _ (from words : ℕ) (key : List ℕ) (room : from + 4 * words ≤ length
   pub run-first : take (from - 0) key ≡ take from key
   run-first = rw (sub-zero from)
 
-  pub run-words : numbers word words (take (length key - from) (drop from key)) ≡ numbers word words (drop from key)
-  run-words = ap (numbers word words) (take-all (length key - from) (drop from key) (omega (arith, length-drop from key)))
+  pub run-words : numbers quad words (take (length key - from) (drop from key)) ≡ numbers quad words (drop from key)
+  run-words = ap (numbers quad words) (take-all (length key - from) (drop from key) (omega (arith, length-drop from key)))
 
   pub run-last : take (length key - (from + 4 * words)) (drop (from + 4 * words) key) ≡ drop (from + 4 * words) key
   run-last = let e = from + 4 * words in take-all (length key - e) (drop e key) (omega (arith, length-drop e key))
@@ -107,16 +108,16 @@ module _ (from words : ℕ) (key : List ℕ) (room : from + 4 * words ≤ length
         let l : length u ≡ length w = omega (arith, first-length, length-append p (drop (from - 0) w), length-drop (from - 0) w) in
         length-take-le (from + words - from) (drop from u) (omega (arith, length-drop from u)) ∙ add-sub-cancel-left from words
 
-    module _ (middle : q ≡ numbers word (length (take (from + words - from) (drop from (p ++ drop (from - 0) w))))
+    module _ (middle : q ≡ numbers quad (length (take (from + words - from) (drop from (p ++ drop (from - 0) w))))
         (take (length key - from) (drop from key)))
         (last : r ≡ take (length key - (from + 4 * words)) (drop (from + 4 * words) key)) where
-      second : q ≡ numbers word words (drop from key)
-      second = middle ∙ ap (λ n. numbers word n (take (length key - from) (drop from key))) middle-length ∙ run-words
+      second : q ≡ numbers quad words (drop from key)
+      second = middle ∙ ap (λ n. numbers quad n (take (length key - from) (drop from key))) middle-length ∙ run-words
 
       pub runs-filled : let x = take from (p ++ drop (from - 0) w) ++ (q ++ drop (from + words - from) (drop from (p ++ drop (from - 0) w))) in
           take (from + words) x ++ (r ++ drop (length x - (from + words)) (drop (from + words) x)) ≡ runs from words key
       runs-filled =
-          let lq : length q ≡ words = ap length second ∙ length-numbers word words (drop from key) in
+          let lq : length q ≡ words = ap length second ∙ length-numbers quad words (drop from key) in
           let lr : length r ≡ length (drop (from + 4 * words) key) = ap length (last ∙ run-last) in
           parts-three from words w p q r first-length lq (omega (arith, lr, length-drop (from + 4 * words) key))
           ∙ ap₂ (λ a b. a ++ b) (first ∙ run-first) (ap₂ (λ a b. a ++ b) second (last ∙ run-last))

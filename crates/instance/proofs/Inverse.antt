@@ -27,7 +27,8 @@ use Rattle.rows.proofs.Sound.{cond-none}
 use Rattle.instance.specs.declared.Decoded.the-variants.{Instance}
 use Rattle.instance.specs.Instances.{base, instance, lists, keyIndex, encodeFault, written, Encodes}
 use Rattle.instance.specs.Decoding.{parseIndex, Reading, readIndex, readColumn, tableOf, readInstance, keyBytes, decoded, buffered}
-use Rattle.instance.specs.Inverse.{Bytes, Encodable, readingOf, ReadsWritten, WritesRead, DecodeAfterEncode, EncodeAfterDecode}
+use Rattle.big_endian.specs.BigEndian.{Octets}
+use Rattle.instance.specs.Inverse.{Encodable, readingOf, ReadsWritten, WritesRead, DecodeAfterEncode, EncodeAfterDecode}
 use Rattle.instance.proofs.Indexing.{then-some, map-some, cond-some, index-parsed, index-made}
 use Rattle.instance.proofs.Encoding.{encode-accepted}
 
@@ -40,7 +41,7 @@ table-of-base Mapping v = refl
 table-of-base Access v = refl
 table-of-base View v = refl
 
-pub reads-written : (t : Table) (column : ℕ) (key : List ℕ) → Bytes key → Encodable t column key → ReadsWritten t column key
+pub reads-written : (t : Table) (column : ℕ) (key : List ℕ) → Octets key → Encodable t column key → ReadsWritten t column key
 unfolding readInstance readColumn keyIndex
 reads-written t column key b e =
     let ks = keyFields t in

@@ -12,12 +12,12 @@ use Rattle.rows.proofs.Bounds.{longestField, longest}
 use Rattle.instance.specs.declared.Cursor.{Cursor}
 use Rattle.instance.specs.declared.Read.{Read}
 use Rattle.instance.specs.declared.Read.the-variants.{Next, Bad}
-use Rattle.instance.specs.Buffers.{laid}
+use Rattle.lists.specs.Laid.{laid}
 use Rattle.instance.specs.Decoding.{andThen, Parsed, parseField, led, parseFields}
 use Rattle.instance.specs.Reading.{Reads, ReadsField, ReadsFields}
 use Rattle.instance.proofs.Indexing.{parsed}
 use Rattle.instance.proofs.Taking.{bytes-most}
-use Rattle.instance.proofs.Laying.{length-laid, laid-laid}
+use Rattle.lists.proofs.Laid.{length-laid, laid-laid}
 
 -- ---- what was taken, once the next place is known
 

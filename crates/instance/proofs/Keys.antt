@@ -12,11 +12,12 @@ use lib.ListN.{length, take, drop, getD, length-drop, drop-of-length-le}
 use lib.Seq.{take-all, take-add, drop-drop}
 use Rattle.rows.specs.declared.Table.{Table}
 use Rattle.rows.specs.declared.Table.the-variants.{Context, Mapping, Access, View}
-use Rattle.rows.specs.Fields.{octet, word, number, numbers, Field, sequence, integer, fault, taken, value, faults, values, indexField, index}
+use Rattle.big_endian.specs.BigEndian.{octet, quad, number, numbers}
+use Rattle.rows.specs.Fields.{Field, sequence, integer, fault, taken, value, faults, values, indexField, index}
 use Rattle.rows.specs.Rows.{keyFields}
 use Rattle.rows.proofs.Sound.{sequence-room, integer-room, field-room, faults-first, faults-rest, faults-end}
 use Rattle.rows.proofs.Places.{getD-front, numbers-octet}
-use Rattle.rows.proofs.Inverse.{length-numbers}
+use Rattle.big_endian.proofs.BigEndian.{length-numbers}
 use Rattle.instance.specs.Instances.{keyIndex}
 use Rattle.instance.specs.Runs.{wordsFrom, wordsIn, runs}
 
@@ -59,11 +60,11 @@ context-runs key h = record { room = omega arith; index-is = last-name 0 32 key 
 mapping-runs : (key : List ℕ) → faults (keyFields Mapping) key ≡ none → Runs Mapping key
 unfolding keyIndex keyFields
 mapping-runs key h =
-    let k = integer word 1 2147483647 in
+    let k = integer quad 1 2147483647 in
     let ks = name 1 32 ∷ [] in
     record {
-      room = integer-room word 1 2147483647 key (faults-first k ks key h);
-      index-is = ap (λ u. number word key ∷ u) (last-name 1 32 (drop 4 key) (faults-rest k ks key h));
+      room = integer-room quad 1 2147483647 key (faults-first k ks key h);
+      index-is = ap (λ u. number quad key ∷ u) (last-name 1 32 (drop 4 key) (faults-rest k ks key h));
     }
 
 -- an access key: two names, a number of four bytes, and one of one byte
@@ -73,24 +74,24 @@ front-name lo hi ks v h =
     ap (λ u. u ++ index ks (values ks (drop (taken (name lo hi) v) v))) (name-index lo hi v (faults-first (name lo hi) ks v h))
 
 abbrev modelAndLevel : List Field
-modelAndLevel = integer word 0 2147483647 ∷ integer octet 1 3 ∷ []
+modelAndLevel = integer quad 0 2147483647 ∷ integer octet 1 3 ∷ []
 
 module _ (v : List ℕ) (h : faults modelAndLevel v ≡ none) where
   level : faults (integer octet 1 3 ∷ []) (drop 4 v) ≡ none
-  level = faults-rest (integer word 0 2147483647) (integer octet 1 3 ∷ []) v h
+  level = faults-rest (integer quad 0 2147483647) (integer octet 1 3 ∷ []) v h
 
   five : length v ≡ 5
   five = omega (
     arith,
-    integer-room word 0 2147483647 v (faults-first (integer word 0 2147483647) _ v h),
+    integer-room quad 0 2147483647 v (faults-first (integer quad 0 2147483647) _ v h),
     last-whole (integer octet 1 3)
         (drop 4 v) level,
     length-drop 4 v,
   )
 
-  level-index : index modelAndLevel (values modelAndLevel v) ≡ numbers word 1 v ++ drop 4 v
+  level-index : index modelAndLevel (values modelAndLevel v) ≡ numbers quad 1 v ++ drop 4 v
   level-index =
-      ap (λ u. number word v ∷ u)
+      ap (λ u. number quad v ∷ u)
       (small-index 1 3 (drop 4 v) (faults-first (integer octet 1 3) [] (drop 4 v) level)
       ∙ take-all 1 (drop 4 v) (omega (arith, five, length-drop 4 v)))
 
@@ -135,14 +136,14 @@ module _ (v : List ℕ) (h : faults (keyFields Access) v ≡ none) where
 
 -- a view's key: a name, then a count and as many numbers of four bytes
 abbrev subtree : Field
-subtree = sequence word 1 64
+subtree = sequence quad 1 64
 
 subtree-index : (v : List ℕ) → faults (subtree ∷ []) v ≡ none
-    → index (subtree ∷ []) (values (subtree ∷ []) v) ≡ take 1 v ++ (numbers word (getD v 0 0) (drop 1 v) ++ drop (1 + 4 * getD v 0 0) v)
+    → index (subtree ∷ []) (values (subtree ∷ []) v) ≡ take 1 v ++ (numbers quad (getD v 0 0) (drop 1 v) ++ drop (1 + 4 * getD v 0 0) v)
 subtree-index [] h = absurd (omega (arith, last-whole subtree [] h))
 subtree-index (n ∷ v) h =
     let e : length (n ∷ v) ≤ 1 + 4 * n = omega (arith, last-whole subtree (n ∷ v) h) in
-    rw (length-numbers word n v, drop-of-length-le (n ∷ v) e)
+    rw (length-numbers quad n v, drop-of-length-le (n ∷ v) e)
 
 module _ (v : List ℕ) (h : faults (keyFields View) v ≡ none) where
   family : ℕ

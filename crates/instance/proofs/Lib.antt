@@ -1,5 +1,3 @@
-pub mod Laying
-pub mod Words
 pub mod Scanning
 pub mod Parsing
 pub mod Indexing

@@ -14,7 +14,8 @@ use lib.Dec.{leb, ltb}
 use borrow.Author.Tests.{ltb-true, ltb-false, leb-true, leb-false, le-leb, lt-leb}
 use Rattle.lists.proofs.Bools.{split, and-left, and-right, cond-same}
 use Rattle.rows.proofs.Sound.{within-least, within-most}
-use Rattle.rows.specs.Fields.{Width, bound, sequence, integer, within, fit}
+use Rattle.big_endian.specs.BigEndian.{Width, bound, fit}
+use Rattle.rows.specs.Fields.{sequence, integer, within}
 use Rattle.instance.specs.declared.Part.{Part}
 use Rattle.instance.specs.declared.Part.the-variants.{Of, Amiss}
 use Rattle.instance.specs.Decoding.{Parsed, parseField}

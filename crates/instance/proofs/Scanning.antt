@@ -13,7 +13,7 @@ use borrow.Author.Tests.{lt-ltb}
 use Rattle.lists.specs.Order.{begins}
 use Rattle.lists.proofs.Bools.{is-false, and-both, and-left, and-right}
 use Rattle.lists.proofs.Orders.{begins-true}
-use Rattle.rows.specs.Fields.{Width, bound, fit}
+use Rattle.big_endian.specs.BigEndian.{Width, bound, fit}
 
 drop-next : (xs : List ℕ) (i : ℕ) → i < length xs → drop i xs ≡ getD xs i 0 ∷ drop (i + 1) xs
 drop-next xs i h = rw (add-one i) (drop-cons xs i 0 h)

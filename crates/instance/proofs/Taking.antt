@@ -11,18 +11,19 @@ use lib.ListN.{length, take, drop, getD, set, length-drop, length-set}
 use lib.Seq.{length-take-le}
 use borrow.Rule.Slice.PartMut.{same-len-mid}
 use borrow.Author.Tests.{lt-ltb}
-use Rattle.rows.specs.Fields.{Width, octet, size, bound, bytes, bytesOf, Field, sequence, integer, within, fieldBytes, fit, legal}
-use Rattle.rows.proofs.Inverse.{length-bytes, length-bytesOf}
+use Rattle.big_endian.specs.BigEndian.{Width, octet, size, bound, bytes, bytesOf, fit}
+use Rattle.rows.specs.Fields.{Field, sequence, integer, within, fieldBytes, legal}
+use Rattle.big_endian.proofs.BigEndian.{length-bytes, length-bytesOf}
 use Rattle.rows.proofs.Sound.{within-most}
 use Rattle.rows.proofs.Bounds.{longestField}
 use Rattle.lists.proofs.Bools.{and-left}
 use Rattle.instance.specs.declared.Cursor.{Cursor}
 use Rattle.instance.specs.declared.Read.the-variants.{Next, Bad}
 use Rattle.instance.specs.declared.Part.the-variants.{Of, Amiss}
-use Rattle.instance.specs.Buffers.{laid}
+use Rattle.lists.specs.Laid.{laid}
 use Rattle.instance.specs.Reading.{partAt, countAt, ReadsField}
 use Rattle.instance.proofs.Parsing.{count-of, parse-integer, parse-sequence}
-use Rattle.instance.proofs.Laying.{laid-set, laid-part, laid-laid}
+use Rattle.lists.proofs.Laid.{laid-set, laid-part, laid-laid}
 
 -- ---- a number
 

@@ -7,6 +7,7 @@ use Prim.Native.Nat.{ℕ, _≤_, _<_}
 use lib.ListN.{length, take, drop, getD}
 use Rattle.answers.specs.declared.Written.{Written}
 use Rattle.answers.specs.declared.Written.the-variants.{Length}
+use Rattle.big_endian.specs.BigEndian.{Octets}
 use Rattle.rows.specs.declared.Table.{Table}
 use Rattle.rows.specs.Fields.{faults, values}
 use Rattle.rows.specs.Rows.{keyFields}
@@ -14,10 +15,6 @@ use Rattle.instance.specs.declared.Decoded.{Decoded}
 use Rattle.instance.specs.declared.Decoded.the-variants.{Instance}
 use Rattle.instance.specs.Instances.{instance, lists, keyIndex, Encodes}
 use Rattle.instance.specs.Decoding.{Reading, readInstance, keyBytes, Decodes}
-
--- bytes, as a lent slice of them holds
-abbrev pub Bytes : List ℕ → Type 0
-Bytes v = (i : ℕ) → getD v i 0 < 256
 
 -- ---- of the definitions
 
@@ -44,7 +41,7 @@ pub record WritesRead (oid : List ℕ) (d : Reading) : Type 0 where
 -- a key is encoded, and the instance decoded: table, column and key again
 abbrev pub DecodeAfterEncode : Type 0
 DecodeAfterEncode =
-    (t : Table) (column : ℕ) (key out out' : List ℕ) (n : ℕ) → Bytes key → Encodes t column key out out' (Length n)
+    (t : Table) (column : ℕ) (key out out' : List ℕ) (n : ℕ) → Octets key → Encodes t column key out out' (Length n)
     → (found after : List ℕ) (r : Decoded) → Decodes (take n out') found after r
     → (r ≡ Instance t column (length key)) × (after ≡ key ++ drop (length key) found)
 

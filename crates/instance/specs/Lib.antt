@@ -1,6 +1,5 @@
 pub mod Instances
 pub mod Runs
-pub mod Buffers
 pub mod Decoding
 pub mod Reading
 pub mod Inverse

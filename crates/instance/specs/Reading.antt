@@ -15,7 +15,7 @@ use Rattle.instance.specs.declared.Part.{Part}
 use Rattle.instance.specs.declared.Part.the-variants.{Of, Amiss}
 use Rattle.instance.specs.declared.Found.{Found}
 use Rattle.instance.specs.declared.Found.the-variants.{In, Nowhere}
-use Rattle.instance.specs.Buffers.{laid}
+use Rattle.lists.specs.Laid.{laid}
 use Rattle.instance.specs.Decoding.{Parsed, parseField, parseFields}
 
 -- the table found, if any is

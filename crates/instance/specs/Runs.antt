@@ -4,7 +4,7 @@ use Prim.Native.Nat.{ℕ, _+_, _-_, _*_}
 use lib.ListN.{length, take, drop, getD}
 use Rattle.rows.specs.declared.Table.{Table}
 use Rattle.rows.specs.declared.Table.the-variants.{Context, Mapping, Access, View}
-use Rattle.rows.specs.Fields.{word, numbers}
+use Rattle.big_endian.specs.BigEndian.{quad, numbers}
 
 -- where these numbers begin, and how many there are
 abbrev pub wordsFrom : Table → List ℕ → ℕ
@@ -20,4 +20,4 @@ wordsIn Access key = 1
 wordsIn View key = getD key (1 + getD key 0 0) 0
 
 abbrev pub runs : ℕ → ℕ → List ℕ → List ℕ
-runs from words key = take from key ++ (numbers word words (drop from key) ++ drop (from + 4 * words) key)
+runs from words key = take from key ++ (numbers quad words (drop from key) ++ drop (from + 4 * words) key)

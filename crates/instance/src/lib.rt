@@ -10,11 +10,12 @@ ghost use mathlib.Core.Option.{none};
 ghost use Prim.Native.Nat.{_+_, _*_, _≤_};
 ghost use lib.ListN.{length, take, drop};
 ghost use Rattle.lists.specs.Order.{begins};
-ghost use Rattle.rows.specs.Fields.{sequence, integer, octet, word, bytes, numbers, bytesOf, faults, fit};
+ghost use Rattle.rows.specs.Fields.{sequence, integer, faults};
+ghost use Rattle.big_endian.specs.BigEndian.{octet, quad, bytes, numbers, bytesOf, fit};
 ghost use Rattle.rows.specs.Rows.{contextKey, mappingKey, accessKey, viewKey, keyFields};
 ghost use Rattle.instance.specs.Instances.{base, lists, instance, keyIndex, Encodes};
 ghost use Rattle.instance.specs.Runs.{wordsFrom, wordsIn, runs};
-ghost use Rattle.instance.specs.Buffers.{laid};
+ghost use Rattle.lists.specs.Laid.{laid};
 ghost use Rattle.instance.specs.Decoding.{tableOf, readIndex, Delivers, Decodes};
 ghost use Rattle.instance.specs.Numbers.{decodedNumber};
 ghost use Rattle.instance.specs.Reading.{foundIn, partAt, countAt, ReadsField, ReadsFields};
@@ -104,12 +105,12 @@ fn put_octets(out: &mut [u32], bytes: &[u8])
 // A part for each four bytes.
 fn put_words(out: &mut [u32], bytes: &[u8])
     requires { ⌜ 4 * length (now out) ≤ length (now bytes) ⌝ }
-    ensures { λ _. ⌜ now (out .exit) ≡ numbers word (length (now (out .entry))) (now (bytes .entry)) ⌝ }
+    ensures { λ _. ⌜ now (out .exit) ≡ numbers quad (length (now (out .entry))) (now (bytes .entry)) ⌝ }
 {
     let mut i = 0;
     let mut o = 0;
     while i < out.len() {
-        out[i] = rows::word_at(bytes, o) as u32;
+        out[i] = big_endian::quad_at(bytes, o) as u32;
         o += 4;
         i += 1;
     }
@@ -249,17 +250,6 @@ fn count(index: &[u32], at: usize, lo: u32, hi: u32) -> Part
     n
 }
 
-// A number in four bytes, big-endian.
-fn write_word(key: &mut [u8], at: usize, x: u32)
-    requires { ⌜ at + 4 ≤ length (now key) ⌝ }
-    ensures { λ _. ⌜ now (key .exit) ≡ laid at (bytes word x) (now (key .entry)) ⌝ }
-{
-    key[at] = (x / 16777216) as u8;
-    key[at + 1] = (x / 65536 % 256) as u8;
-    key[at + 2] = (x / 256 % 256) as u8;
-    key[at + 3] = (x % 256) as u8;
-}
-
 // A byte for each part, if each is an octet.
 fn write_octets(key: &mut [u8], parts: &[u32]) -> bool
     requires { ⌜ length (now key) ≡ length (now parts) ⌝ }
@@ -275,20 +265,6 @@ fn write_octets(key: &mut [u8], parts: &[u32]) -> bool
         i += 1;
     }
     true
-}
-
-// Four bytes for each part.
-fn write_words(key: &mut [u8], parts: &[u32])
-    requires { ⌜ length (now key) ≡ 4 * length (now parts) ⌝ }
-    ensures { λ _. ⌜ now (key .exit) ≡ bytesOf word (now (parts .entry)) ⌝ }
-{
-    let mut i = 0;
-    let mut o = 0;
-    while i < parts.len() {
-        write_word(key, o, parts[i]);
-        o += 4;
-        i += 1;
-    }
 }
 
 // A name of `lo` to `hi` octets.
@@ -317,7 +293,7 @@ fn name(index: &[u32], at: Cursor, lo: u32, hi: u32, key: &mut [u8]) -> Read
 // A subtree of 1 to 64 sub-identifiers.
 fn subtree(index: &[u32], at: Cursor, key: &mut [u8]) -> Read
     requires { ⌜ at .byte + 257 ≤ length (now key) ⌝ }
-    ensures { λ r. ⌜ ReadsField (sequence word 1 64) (now (index .entry)) (now (key .entry)) (now (key .exit)) at r ⌝ }
+    ensures { λ r. ⌜ ReadsField (sequence quad 1 64) (now (index .entry)) (now (key .entry)) (now (key .exit)) at r ⌝ }
 {
     let p = at.part;
     let k = at.byte;
@@ -331,14 +307,14 @@ fn subtree(index: &[u32], at: Cursor, key: &mut [u8]) -> Read
     let c = k + 1;
     let d = c + 4 * n;
     key[k] = x as u8;
-    write_words(&mut key[c..d], &index[a..b]);
+    big_endian::put_quads(&mut key[c..d], &index[a..b]);
     Read::Next(Cursor { part: b, byte: d })
 }
 
 // A number of four bytes from `lo` to `hi`.
 fn large(index: &[u32], at: Cursor, lo: u32, hi: u32, key: &mut [u8]) -> Read
     requires { ⌜ at .byte + 4 ≤ length (now key) ⌝ }
-    ensures { λ r. ⌜ ReadsField (integer word lo hi) (now (index .entry)) (now (key .entry)) (now (key .exit)) at r ⌝ }
+    ensures { λ r. ⌜ ReadsField (integer quad lo hi) (now (index .entry)) (now (key .entry)) (now (key .exit)) at r ⌝ }
 {
     let p = at.part;
     let k = at.byte;
@@ -346,7 +322,7 @@ fn large(index: &[u32], at: Cursor, lo: u32, hi: u32, key: &mut [u8]) -> Read
     let Part::Of(x) = part else {
         return Read::Bad;
     };
-    write_word(key, k, x);
+    big_endian::put_quad(key, k, x);
     Read::Next(Cursor {
         part: p + 1,
         byte: k + 4,

@@ -4,3 +4,4 @@ pub mod Keeps
 pub mod Tops
 pub mod Scans
 pub mod Greatest
+pub mod Laid

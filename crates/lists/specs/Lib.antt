@@ -1,3 +1,4 @@
 pub mod Lists
 pub mod Order
 pub mod Scans
+pub mod Laid

@@ -13,9 +13,8 @@ use lib.ListN.{length, take, drop, getD, length-drop, take-append-drop}
 use lib.Seq.{length-take-le, drop-drop, getD-take}
 use borrow.Author.Tests.{eqb-true, eq-eqb}
 use Rattle.lists.proofs.Bools.{test-ext, and-left, and-right, and-both, and-false-right, or-right}
-use Rattle.rows.specs.Fields.{word, number, numbers}
-use Rattle.rows.proofs.Steps.{word-front}
-use Rattle.rows.proofs.Inverse.{length-numbers}
+use Rattle.big_endian.specs.BigEndian.{quad, number, numbers}
+use Rattle.big_endian.proofs.BigEndian.{quad-front, length-numbers}
 use Rattle.procedure.specs.Decision.{maskBit, agrees}
 use Rattle.procedure.specs.Bytes.{identifier}
 
@@ -23,7 +22,7 @@ use Rattle.procedure.specs.Bytes.{identifier}
 
 -- four octets are the same exactly where the numbers are
 abbrev four : ℕ → ℕ → ℕ → ℕ → ℕ
-four a b c d = number word (a ∷ b ∷ c ∷ d ∷ [])
+four a b c d = number quad (a ∷ b ∷ c ∷ d ∷ [])
 
 words-eqb : (a b c d p q r s : ℕ) → a < 256 → b < 256 → c < 256 → d < 256 → p < 256 → q < 256 → r < 256 → s < 256
     → eqb a p && eqb b q && eqb c r && eqb d s ≡ eqb (four a b c d) (four p q r s)
@@ -42,44 +41,44 @@ words-eqb a b c d p q r s ha hb hc hd hp hq hr hs = test-ext _ _ octets words
 
 pub word-same : (a b : List ℕ) (i : ℕ) → ((k : ℕ) → getD a k 0 < 256) → ((k : ℕ) → getD b k 0 < 256)
     → eqb (getD a i 0) (getD b i 0) && eqb (getD a (i + 1) 0) (getD b (i + 1) 0) && eqb (getD a (i + 2) 0) (getD b (i + 2) 0) && eqb (getD a (i + 3) 0) (getD b (i + 3) 0)
-    ≡ eqb (number word (drop i a)) (number word (drop i b))
+    ≡ eqb (number quad (drop i a)) (number quad (drop i b))
 word-same a b i ha hb =
     words-eqb _ _ _ _ _ _ _ _ (ha i) (ha (i + 1)) (ha (i + 2)) (ha (i + 3)) (hb i) (hb (i + 1)) (hb (i + 2)) (hb (i + 3))
-    ∙ sym (ap₂ eqb (word-front a i) (word-front b i))
+    ∙ sym (ap₂ eqb (quad-front a i) (quad-front b i))
 
-numbers-front : (n : ℕ) (a b : List ℕ) → n * 4 ≤ length a → numbers word n (a ++ b) ≡ numbers word n a
+numbers-front : (n : ℕ) (a b : List ℕ) → n * 4 ≤ length a → numbers quad n (a ++ b) ≡ numbers quad n a
 numbers-front zero a b h = refl
 numbers-front (suc n) [] b h = absurd (omega arith)
 numbers-front (suc n) (x ∷ []) b h = absurd (omega arith)
 numbers-front (suc n) (x ∷ y ∷ []) b h = absurd (omega arith)
 numbers-front (suc n) (x ∷ y ∷ z ∷ []) b h = absurd (omega arith)
-numbers-front (suc n) (x ∷ y ∷ z ∷ w ∷ a) b h = ap (λ u. number word (x ∷ y ∷ z ∷ w ∷ []) ∷ u) (numbers-front n a b (omega arith))
+numbers-front (suc n) (x ∷ y ∷ z ∷ w ∷ a) b h = ap (λ u. number quad (x ∷ y ∷ z ∷ w ∷ []) ∷ u) (numbers-front n a b (omega arith))
 
 -- the identifier that the first 4 * n bytes hold
-pub identifier-take : (n : ℕ) (v : List ℕ) → 4 * n ≤ length v → identifier (take (4 * n) v) ≡ numbers word n v
+pub identifier-take : (n : ℕ) (v : List ℕ) → 4 * n ≤ length v → identifier (take (4 * n) v) ≡ numbers quad n v
 unfolding identifier
 identifier-take n v h =
     let l : length (take (4 * n) v) ≡ 4 * n = length-take-le (4 * n) v h in
     let e : length (take (4 * n) v) / 4 ≡ n = omega arith in
-    ap (λ m. numbers word m (take (4 * n) v)) e
+    ap (λ m. numbers quad m (take (4 * n) v)) e
     ∙ sym (numbers-front n (take (4 * n) v) (drop (4 * n) v) (omega arith))
-    ∙ ap (numbers word n) (take-append-drop (4 * n) v)
+    ∙ ap (numbers quad n) (take-append-drop (4 * n) v)
 
 pub length-identifier : (v : List ℕ) → length (identifier v) ≡ length v / 4
 unfolding identifier
-length-identifier v = length-numbers word (length v / 4) v
+length-identifier v = length-numbers quad (length v / 4) v
 
 pub identifier-none : (v : List ℕ) → length v < 4 → identifier v ≡ []
 unfolding identifier
 identifier-none v h = let e : length v / 4 ≡ 0 = omega arith in rw e
 
 -- the number at k and those after it
-pub identifier-next : (k : ℕ) (v : List ℕ) → k + 4 ≤ length v → identifier (drop k v) ≡ number word (drop k v) ∷ identifier (drop (k + 4) v)
+pub identifier-next : (k : ℕ) (v : List ℕ) → k + 4 ≤ length v → identifier (drop k v) ≡ number quad (drop k v) ∷ identifier (drop (k + 4) v)
 unfolding identifier
 identifier-next k v h =
     let e : length (drop k v) / 4 ≡ suc (length (drop (k + 4) v) / 4) = omega (arith, length-drop k v, length-drop (k + 4) v) in
-    ap (λ m. numbers word m (drop k v)) e
-    ∙ ap (λ u. number word (drop k v) ∷ numbers word (length (drop (k + 4) v) / 4) u) (drop-drop 4 k v)
+    ap (λ m. numbers quad m (drop k v)) e
+    ∙ ap (λ u. number quad (drop k v) ∷ numbers quad (length (drop (k + 4) v) / 4) u) (drop-drop 4 k v)
 
 -- ---- agrees
 
@@ -98,7 +97,7 @@ module _ (mask s v : List ℕ) (i k : ℕ) where
   agrees-end h = rw (identifier-none (drop k s) (omega (arith, length-drop k s)))
 
   module _ (hs : k + 4 ≤ length s) (hv : k + 4 ≤ length v) where
-    pub agrees-same : eqb (number word (drop k s)) (number word (drop k v)) ≡ true
+    pub agrees-same : eqb (number quad (drop k s)) (number quad (drop k v)) ≡ true
         → agrees mask i (identifier (drop k s)) (identifier (drop k v)) ≡ agrees mask (i + 1) (identifier (drop (k + 4) s)) (identifier (drop (k + 4) v))
     unfolding agrees
     agrees-same e = rw (identifier-next k s hs, identifier-next k v hv, or-right (not (maskBit mask i)) e, add-one)
@@ -108,7 +107,7 @@ module _ (mask s v : List ℕ) (i k : ℕ) where
     unfolding agrees
     agrees-masked b = rw (identifier-next k s hs, identifier-next k v hv, b, add-one)
 
-    pub agrees-differ : eqb (number word (drop k s)) (number word (drop k v)) ≡ false → maskBit mask i ≡ true
+    pub agrees-differ : eqb (number quad (drop k s)) (number quad (drop k v)) ≡ false → maskBit mask i ≡ true
         → agrees mask i (identifier (drop k s)) (identifier (drop k v)) ≡ false
     unfolding agrees
     agrees-differ e b = rw (identifier-next k s hs, identifier-next k v hv, e, b)
@@ -118,13 +117,13 @@ module _ (mask s v : List ℕ) (i k : ℕ) where
     unfolding agrees
     agrees-rest e =
         rw (identifier-next k s hs, identifier-next k v hv)
-        (and-false-right (not (maskBit mask i) || eqb (number word (drop k s)) (number word (drop k v))) (rw add-one at e))
+        (and-false-right (not (maskBit mask i) || eqb (number quad (drop k s)) (number quad (drop k v))) (rw add-one at e))
 
 -- numbers in front whose bytes are the same
 module _ (mask s v : List ℕ) where
-  number-same : (k : ℕ) → ((j : ℕ) → j < k + 4 → getD s j 0 ≡ getD v j 0) → eqb (number word (drop k s)) (number word (drop k v)) ≡ true
+  number-same : (k : ℕ) → ((j : ℕ) → j < k + 4 → getD s j 0 ≡ getD v j 0) → eqb (number quad (drop k s)) (number quad (drop k v)) ≡ true
   number-same k h =
-      eq-eqb _ _ (word-front s k ∙ rw (h k (omega arith), h (k + 1) (omega arith), h (k + 2) (omega arith), h (k + 3) (omega arith)) (sym (word-front v k)))
+      eq-eqb _ _ (quad-front s k ∙ rw (h k (omega arith), h (k + 1) (omega arith), h (k + 2) (omega arith), h (k + 3) (omega arith)) (sym (quad-front v k)))
 
   agrees-front : (i : ℕ) → 4 * i ≤ length s → 4 * i ≤ length v → ((j : ℕ) → j < 4 * i → getD s j 0 ≡ getD v j 0)
       → agrees mask 0 (identifier s) (identifier v) ≡ agrees mask i (identifier (drop (4 * i) s)) (identifier (drop (4 * i) v))
@@ -150,7 +149,7 @@ module _ (mask s v : List ℕ) where
       let e : 4 * suc i ≡ 4 * i + 4 = omega arith in
       agrees-from i (omega arith) (omega arith) (agrees-rest mask s v i (4 * i) (omega arith) (omega arith) (rw (← e, add-one) h))
 
-  pub agrees-part : (k : ℕ) → k % 4 ≡ 0 → k + 4 ≤ length s → k + 4 ≤ length v → eqb (number word (drop k s)) (number word (drop k v)) ≡ false
+  pub agrees-part : (k : ℕ) → k % 4 ≡ 0 → k + 4 ≤ length s → k + 4 ≤ length v → eqb (number quad (drop k s)) (number quad (drop k v)) ≡ false
       → maskBit mask (k / 4) ≡ true → agrees mask 0 (identifier s) (identifier v) ≡ false
   agrees-part k r hs hv d b =
       let e : 4 * (k / 4) ≡ k = omega arith in

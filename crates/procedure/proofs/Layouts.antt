@@ -12,7 +12,8 @@ use lib.ListN.{length, take, drop, getD, length-drop}
 use lib.Seq.{length-take-le}
 use borrow.Author.Tests.{lt-ltb}
 use Rattle.rows.specs.declared.Table.the-variants.{Context, Mapping, Access, View}
-use Rattle.rows.specs.Fields.{octet, word, number, Field, sequence, integer, fault, taken, value, faults, values}
+use Rattle.big_endian.specs.BigEndian.{octet, quad, number}
+use Rattle.rows.specs.Fields.{Field, sequence, integer, fault, taken, value, faults, values}
 use Rattle.rows.specs.Rows.{AccessRow, rowFields, contextFrom, mappingFrom, accessFrom, viewFrom, contextOf, mappingOf, accessOf, viewOf}
 use Rattle.rows.proofs.Sound.{faults-end}
 use Rattle.rows.proofs.Places.{next, sequence-at, octets-at, octet-at}
@@ -48,11 +49,11 @@ module _ (ks : List Field) (row : List ℕ) (at end : ℕ) (l : at ≤ length ro
       pass (sequence octet lo hi) (nameAt row at) h (omega arith) (octets-at lo hi row at (omega arith))
 
   -- a subtree
-  pub pass-subtree : (lo hi : ℕ) → end ≡ at + 1 + 4 * getD row at 0 → faults (sequence word lo hi ∷ ks) (drop at row) ≡ none
-      → Passed (sequence word lo hi) ks row at end (identifier (take (4 * getD row at 0) (drop (at + 1) row)))
+  pub pass-subtree : (lo hi : ℕ) → end ≡ at + 1 + 4 * getD row at 0 → faults (sequence quad lo hi ∷ ks) (drop at row) ≡ none
+      → Passed (sequence quad lo hi) ks row at end (identifier (take (4 * getD row at 0) (drop (at + 1) row)))
   pass-subtree lo hi e h =
-      let s = sequence-at word lo hi row at (next (sequence word lo hi) ks row at l h .sound) in
-      pass (sequence word lo hi) _ h (omega arith)
+      let s = sequence-at quad lo hi row at (next (sequence quad lo hi) ks row at l h .sound) in
+      pass (sequence quad lo hi) _ h (omega arith)
       (s .reads ∙ sym (identifier-take (getD row at 0) (drop (at + 1) row) (omega (arith, length-drop (at + 1) row))))
 
   -- a number of one byte, and of four
@@ -61,9 +62,9 @@ module _ (ks : List Field) (row : List ℕ) (at end : ℕ) (l : at ≤ length ro
   pass-octet lo hi e h =
       pass (integer octet lo hi) (getD row at 0 ∷ []) h (sym e) (octet-at lo hi row at (next (integer octet lo hi) ks row at l h .sound) .reads)
 
-  pub pass-word : (lo hi : ℕ) → end ≡ at + 4 → faults (integer word lo hi ∷ ks) (drop at row) ≡ none
-      → Passed (integer word lo hi) ks row at end (number word (drop at row) ∷ [])
-  pass-word lo hi e h = pass (integer word lo hi) (number word (drop at row) ∷ []) h (sym e) refl
+  pub pass-word : (lo hi : ℕ) → end ≡ at + 4 → faults (integer quad lo hi ∷ ks) (drop at row) ≡ none
+      → Passed (integer quad lo hi) ks row at end (number quad (drop at row) ∷ [])
+  pass-word lo hi e h = pass (integer quad lo hi) (number quad (drop at row) ∷ []) h (sym e) refl
 
 -- what one field holds, and then the others
 also : {x : List ℕ} {l u v : List (List ℕ)} → l ≡ x ∷ u → u ≡ v → l ≡ x ∷ v
@@ -110,7 +111,7 @@ pub record MappingAt (row : List ℕ) (g : ℕ) : Type 0 where
   pub name : NameIn row 4
   pub group : NameIn row g
   pub holds : mappingOf row ≡ record {
-    securityModel = number word row;
+    securityModel = number quad row;
     securityName = nameAt row 4;
     groupName = nameAt row g;
     storageType = getD row (past row g) 0;
@@ -147,7 +148,7 @@ pub record AccessAt (row : List ℕ) (p m w n : ℕ) : Type 0 where
   pub holds : accessOf row ≡ record {
     groupName = nameAt row 0;
     contextPrefix = nameAt row p;
-    securityModel = number word (drop m row);
+    securityModel = number quad (drop m row);
     securityLevel = getD row (m + 4) 0;
     contextMatch = getD row (m + 5) 0;
     readViewName = nameAt row (m + 6);

@@ -7,7 +7,8 @@ use Prim.Native.Nat.{ℕ, _+_, _*_, _/_, _≤_}
 use lib.Dec.{eqb}
 use lib.ListN.{length, take, drop, getD}
 use Rattle.rows.specs.declared.Table.{Table}
-use Rattle.rows.specs.Fields.{word, numbers, faults}
+use Rattle.big_endian.specs.BigEndian.{quad, numbers}
+use Rattle.rows.specs.Fields.{faults}
 use Rattle.rows.specs.Rows.{rowFields, AccessRow, ViewRow}
 use Rattle.procedure.specs.declared.Sighting.{Sighting}
 use Rattle.procedure.specs.declared.Sighting.the-variants.{Elsewhere, Unmatched, Matched}
@@ -26,7 +27,7 @@ nameAt row at = take (getD row at 0) (drop (at + 1) row)
 
 -- an identifier in parts of 4 bytes, big-endian; a torn last part does not count
 unfoldable pub identifier : List ℕ → List ℕ
-identifier v = numbers word (length v / 4) v
+identifier v = numbers quad (length v / 4) v
 
 -- an access row's rank among the candidates, 0 where it is none: its own model before any, the longer prefix, the higher level
 unfoldable pub rankOf : List ℕ → ℕ → ℕ → List ℕ → AccessRow → ℕ

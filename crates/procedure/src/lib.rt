@@ -5,7 +5,7 @@ ghost use lib.Dec.{eqb};
 ghost use lib.ListN.{length, drop, getD};
 ghost use Rattle.lists.specs.Order.{same};
 ghost use Rattle.rows.specs.declared.Table.the-variants.{Context, Mapping, Access, View};
-ghost use Rattle.rows.specs.Fields.{word, number};
+ghost use Rattle.big_endian.specs.BigEndian.{quad, number};
 ghost use Rattle.rows.specs.Rows.{contextOf, mappingOf, accessOf, viewOf};
 ghost use Rattle.procedure.specs.Decision.{active, bearsContext, mapsPrincipal, contextFits, viewFor, maskBit, agrees};
 ghost use Rattle.procedure.specs.Bytes.{Whole, NameIn, nameAt, identifier, rankOf, sighting};
@@ -67,7 +67,7 @@ pub fn maps_principal(row: &[u8], model: usize, name: &[u8]) -> bool
     requires { ⌜ Whole Mapping (now row) ⌝ }
     ensures { λ r. ⌜ r ≡ mapsPrincipal model (now (name .entry)) (mappingOf (now (row .entry))) ⌝ }
 {
-    if rows::word_at(row, 0) != model {
+    if big_endian::quad_at(row, 0) != model {
         return false;
     }
     if !is_name(row, 4, name) {
@@ -120,7 +120,7 @@ pub fn rank(row: &[u8], group: &[u8], model: usize, level: usize, context: &[u8]
     if level < least {
         return 0;
     }
-    let own = rows::word_at(row, m);
+    let own = big_endian::quad_at(row, m);
     let base = wide(row[p]) * 4 + least;
     if own == 0 {
         return base;
@@ -166,7 +166,7 @@ fn mask_bit(mask: &[u8], i: usize) -> bool
 // Whether the four octets at `i` are the same.
 fn same_word(a: &[u8], b: &[u8], i: usize) -> bool
     requires { ⌜ (i + 4 ≤ length (now a)) × (i + 4 ≤ length (now b)) ⌝ }
-    ensures { λ r. ⌜ r ≡ eqb (number word (drop i (now (a .entry)))) (number word (drop i (now (b .entry)))) ⌝ }
+    ensures { λ r. ⌜ r ≡ eqb (number quad (drop i (now (a .entry)))) (number quad (drop i (now (b .entry)))) ⌝ }
 {
     (a[i] == b[i]) & (a[i + 1] == b[i + 1]) & (a[i + 2] == b[i + 2]) & (a[i + 3] == b[i + 3])
 }

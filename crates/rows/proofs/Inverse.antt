@@ -14,35 +14,13 @@ use lib.Seq.{getD-drop, take-all, take-add, drop-at}
 use lib.Dec.{ltb}
 use borrow.Author.Tests.{le-leb, lt-ltb, ltb-true}
 use Rattle.lists.proofs.Bools.{clash, and-left, and-right, and-both}
-use Rattle.rows.specs.Fields.{Width, octet, word, size, bound, number, bytes, numbers, bytesOf, Field, sequence, integer, within, sequenceFault, integerFault, fault, taken, value, faults, values, span, fieldBytes, rowBytes, fit, legal, legals}
+use Rattle.big_endian.specs.BigEndian.{Width, octet, quad, size, bound, number, bytes, numbers, bytesOf, fit, Octets}
+use Rattle.big_endian.proofs.BigEndian.{length-bytes, number-bytes, length-bytesOf, numbers-bytesOf, octets-drop, number-bound, bytes-number, length-numbers, bytesOf-numbers, fit-numbers}
+use Rattle.rows.specs.Fields.{Field, sequence, integer, within, sequenceFault, integerFault, fault, taken, value, faults, values, span, fieldBytes, rowBytes, legal, legals}
 use Rattle.rows.proofs.Sound.{sequence-range, sequence-room, integer-range, integer-room, faults-first, faults-rest, faults-end}
 use Rattle.rows.proofs.Appends.{span-room, faults-append}
 
 -- ---- bytes made, then read
-
-pub length-bytes : (w : Width) (x : ℕ) → length (bytes w x) ≡ size w
-length-bytes octet x = refl
-length-bytes word x = refl
-
-number-bytes : (w : Width) (x : ℕ) (r : List ℕ) → x < bound w → number w (bytes w x ++ r) ≡ x
-number-bytes octet x r h = refl
-number-bytes word x r h = omega arith
-
-pub length-bytesOf : (w : Width) (xs : List ℕ) → length (bytesOf w xs) ≡ length xs * size w
-length-bytesOf w [] = sym (zero-mul (size w))
-length-bytesOf w (x ∷ xs) =
-    let a : length (bytesOf w xs) ≡ length xs * size w = length-bytesOf w xs in
-    let b : suc (length xs) * size w ≡ length xs * size w + size w = suc-mul (length xs) (size w) in
-    omega (arith, length-append (bytes w x) (bytesOf w xs), length-bytes w x)
-
-numbers-bytesOf : (w : Width) (xs r : List ℕ) → fit w xs ≡ true → numbers w (length xs) (bytesOf w xs ++ r) ≡ xs
-numbers-bytesOf w [] r h = refl
-numbers-bytesOf w (x ∷ xs) r h =
-    let u = bytesOf w xs ++ r in
-    let n : number w (bytes w x ++ u) ≡ x = number-bytes w x u (ltb-true x (bound w) (and-left _ (fit w xs) h)) in
-    let d : drop (size w) (bytes w x ++ u) ≡ u = drop-at (bytes w x) u (size w) (length-bytes w x) in
-    let i : numbers w (length xs) u ≡ xs = numbers-bytesOf w xs r (and-right (ltb x (bound w)) (fit w xs) h) in
-    ap (λ v. numbers w (suc (length xs)) v) (append-assoc (bytes w x) (bytesOf w xs) r) ∙ rw (n, d, i)
 
 pub record Made (k : Field) (x r : List ℕ) : Type 0 where
   pub sound : fault k (fieldBytes k x ++ r) ≡ none
@@ -113,60 +91,7 @@ values-made (k ∷ ks) (x ∷ xs) h =
 
 -- ---- bytes read, then made again
 
-abbrev pub Bytes : List ℕ → Type 0
-Bytes v = (i : ℕ) → getD v i 0 < 256
-
-pub bytes-drop : (n : ℕ) (v : List ℕ) → Bytes v → Bytes (drop n v)
-bytes-drop n v b i = rw (getD-drop n v i 0) (b (n + i))
-
-pub bytes-take : (n : ℕ) (v : List ℕ) → Bytes v → Bytes (take n v)
-bytes-take zero v b i = omega arith
-bytes-take (suc n) [] b i = omega arith
-bytes-take (suc n) (x ∷ v) b zero = b 0
-bytes-take (suc n) (x ∷ v) b (suc i) = bytes-take n v (λ j. b (suc j)) i
-
-pub number-bound : (w : Width) (v : List ℕ) → Bytes v → number w v < bound w
-number-bound octet v b = b 0
-number-bound word v b = omega (arith, b 0, b 1, b 2, b 3)
-
-bytes-word : (a b c d : ℕ) → b < 256 → c < 256 → d < 256 → bytes word (a * 16777216 + b * 65536 + c * 256 + d) ≡ a ∷ b ∷ c ∷ d ∷ []
-bytes-word a b c d k l m =
-    let x : ℕ = a * 16777216 + b * 65536 + c * 256 + d in
-    let p : x / 16777216 ≡ a = omega arith in
-    let q : x / 65536 % 256 ≡ b = omega arith in
-    let r : x / 256 % 256 ≡ c = omega arith in
-    let s : x % 256 ≡ d = omega arith in
-    cc
-
-bytes-number : (w : Width) (v : List ℕ) → Bytes v → size w ≤ length v → bytes w (number w v) ≡ take (size w) v
-bytes-number octet [] b h = absurd (omega arith)
-bytes-number octet (x ∷ v) b h = refl
-bytes-number word [] b h = absurd (omega arith)
-bytes-number word (x ∷ []) b h = absurd (omega arith)
-bytes-number word (x ∷ y ∷ []) b h = absurd (omega arith)
-bytes-number word (x ∷ y ∷ z ∷ []) b h = absurd (omega arith)
-bytes-number word (x ∷ y ∷ z ∷ u ∷ v) b h = bytes-word x y z u (b 1) (b 2) (b 3)
-
-pub length-numbers : (w : Width) (n : ℕ) (v : List ℕ) → length (numbers w n v) ≡ n
-length-numbers w zero v = refl
-length-numbers w (suc n) v = ap suc (length-numbers w n (drop (size w) v))
-
-bytesOf-numbers : (w : Width) (n : ℕ) (v : List ℕ) → Bytes v → n * size w ≤ length v → bytesOf w (numbers w n v) ≡ take (n * size w) v
-bytesOf-numbers w zero v b h = rw zero-mul
-bytesOf-numbers w (suc n) v b h =
-    let m : suc n * size w ≡ n * size w + size w = suc-mul n (size w) in
-    let k : size w + n * size w ≡ suc n * size w = omega arith in
-    let e : bytes w (number w v) ≡ take (size w) v = bytes-number w v b (omega arith) in
-    let u = drop (size w) v in
-    let i : bytesOf w (numbers w n u) ≡ take (n * size w) u = bytesOf-numbers w n u (bytes-drop (size w) v b) (omega (arith, length-drop (size w) v)) in
-    rw (e, i) (sym (take-add (size w) (n * size w) v) ∙ ap (λ j. take j v) k)
-
-fit-numbers : (w : Width) (n : ℕ) (v : List ℕ) → Bytes v → fit w (numbers w n v) ≡ true
-fit-numbers w zero v b = refl
-fit-numbers w (suc n) v b =
-    and-both (lt-ltb (number w v) (bound w) (number-bound w v b)) (fit-numbers w n (drop (size w) v) (bytes-drop (size w) v b))
-
-pub read : (k : Field) (v : List ℕ) → Bytes v → fault k v ≡ none → fieldBytes k (value k v) ≡ take (taken k v) v
+pub read : (k : Field) (v : List ℕ) → Octets v → fault k v ≡ none → fieldBytes k (value k v) ≡ take (taken k v) v
 read (sequence w lo hi) [] b h = absurd (omega (arith, sequence-room (size w) lo hi [] h))
 read (sequence w lo hi) (n ∷ v) b h =
     let m : 1 + n * size w ≤ suc (length v) = sequence-room (size w) lo hi (n ∷ v) h in
@@ -175,29 +100,29 @@ read (sequence w lo hi) (n ∷ v) b h =
     rw (length-numbers w n v, i, s)
 read (integer w lo hi) v b h = bytes-number w v b (integer-room w lo hi v h)
 
-pub legal-read : (k : Field) (v : List ℕ) → Bytes v → fault k v ≡ none → legal k (value k v) ≡ true
+pub legal-read : (k : Field) (v : List ℕ) → Octets v → fault k v ≡ none → legal k (value k v) ≡ true
 legal-read (sequence w lo hi) v b h =
     and-both (ap (within lo hi) (length-numbers w (getD v 0 0) (drop 1 v)) ∙ sequence-range (size w) lo hi v h)
-    (fit-numbers w (getD v 0 0) (drop 1 v) (bytes-drop 1 v b))
+    (fit-numbers w (getD v 0 0) (drop 1 v) (octets-drop 1 v b))
 legal-read (integer w lo hi) v b h =
     and-both (integer-range w lo hi v h) (lt-ltb (number w v) (bound w) (number-bound w v b))
 
 -- the first fields of a row
-pub bytes-front : (ps qs : List Field) (v : List ℕ) → Bytes v → faults (ps ++ qs) v ≡ none → rowBytes ps (values ps v) ≡ take (span ps v) v
+pub bytes-front : (ps qs : List Field) (v : List ℕ) → Octets v → faults (ps ++ qs) v ≡ none → rowBytes ps (values ps v) ≡ take (span ps v) v
 unfolding span
 bytes-front [] qs v b h = refl
 bytes-front (p ∷ ps) qs v b h =
     let n = taken p v in
     let u = drop n v in
-    let i : rowBytes ps (values ps u) ≡ take (span ps u) u = bytes-front ps qs u (bytes-drop n v b) (faults-rest p (ps ++ qs) v h) in
+    let i : rowBytes ps (values ps u) ≡ take (span ps u) u = bytes-front ps qs u (octets-drop n v b) (faults-rest p (ps ++ qs) v h) in
     rw (read p v b (faults-first p (ps ++ qs) v h), i) (sym (take-add n (span ps u) v))
 
-pub legals-front : (ps qs : List Field) (v : List ℕ) → Bytes v → faults (ps ++ qs) v ≡ none → legals ps (values ps v) ≡ true
+pub legals-front : (ps qs : List Field) (v : List ℕ) → Octets v → faults (ps ++ qs) v ≡ none → legals ps (values ps v) ≡ true
 unfolding legals
 legals-front [] qs v b h = refl
 legals-front (p ∷ ps) qs v b h =
     and-both (legal-read p v b (faults-first p (ps ++ qs) v h))
-    (legals-front ps qs (drop (taken p v) v) (bytes-drop (taken p v) v b) (faults-rest p (ps ++ qs) v h))
+    (legals-front ps qs (drop (taken p v) v) (octets-drop (taken p v) v b) (faults-rest p (ps ++ qs) v h))
 
 -- a whole row
 pub span-whole : (ks : List Field) (v : List ℕ) → faults ks v ≡ none → span ks v ≡ length v
@@ -206,9 +131,9 @@ span-whole ks v h =
     let r : span ks v ≤ length v = span-room ks [] v g in
     omega (arith, faults-end (drop (span ks v) v) (faults-append ks [] v g), length-drop (span ks v) v)
 
-pub bytes-again : (ks : List Field) (v : List ℕ) → Bytes v → faults ks v ≡ none → rowBytes ks (values ks v) ≡ v
+pub bytes-again : (ks : List Field) (v : List ℕ) → Octets v → faults ks v ≡ none → rowBytes ks (values ks v) ≡ v
 bytes-again ks v b h =
     bytes-front ks [] v b (rw (append-nil ks) h) ∙ take-all (span ks v) v (omega (arith, span-whole ks v h))
 
-pub legals-read : (ks : List Field) (v : List ℕ) → Bytes v → faults ks v ≡ none → legals ks (values ks v) ≡ true
+pub legals-read : (ks : List Field) (v : List ℕ) → Octets v → faults ks v ≡ none → legals ks (values ks v) ≡ true
 legals-read ks v b h = legals-front ks [] v b (rw (append-nil ks) h)

@@ -15,10 +15,12 @@ use Rattle.lists.proofs.Bools.{and-left, and-right}
 use Rattle.rows.specs.declared.Step.the-variants.{At}
 use Rattle.rows.specs.declared.Table.{Table}
 use Rattle.rows.specs.declared.Table.the-variants.{Context, Mapping, Access, View}
-use Rattle.rows.specs.Fields.{Width, octet, word, size, number, Field, sequence, integer, within, fronts, faults, span}
+use Rattle.big_endian.specs.BigEndian.{Width, octet, quad, size, number}
+use Rattle.rows.specs.Fields.{Field, sequence, integer, within, fronts, faults, span}
 use Rattle.rows.specs.Rows.{keyFields, restFields, rowFields}
 use Rattle.rows.specs.Judging.{rowStep, Fits, endsWell}
-use Rattle.rows.proofs.Steps.{getD-front, sequence-whole, integer-whole, ended}
+use Rattle.big_endian.proofs.BigEndian.{getD-front}
+use Rattle.rows.proofs.Steps.{sequence-whole, integer-whole, ended}
 use Rattle.rows.proofs.Appends.{faults-fronts, row-split}
 use Rattle.rows.proofs.Judging.{Walk, start, go, reached-at}
 
@@ -95,14 +97,14 @@ context-legal row name en t =
     let w1 = sequence-on 0 32 name (h 1) (length row) (omega arith) octet (start (keyFields Context) row 0 (omega arith)) en (omega arith) in
     legal Context row w1 (whole [] row (length row) (start [] row (length row) (omega arith)))
 
-pub mapping-legal : (row : List ℕ) (model name a group : ℕ) → model ≡ number word row → name ≡ getD row 4 0 → a ≡ 5 + name → group ≡ getD row a 0
+pub mapping-legal : (row : List ℕ) (model name a group : ℕ) → model ≡ number quad row → name ≡ getD row 4 0 → a ≡ 5 + name → group ≡ getD row a 0
     → joined (eqb (a + 1 + group + 2) (length row)) (within 1 2147483647 model ∷ within 1 32 name ∷ within 1 32 group ∷ endsWell row ∷ []) ≡ true
     → rowStep Mapping row ≡ At a
 unfolding keyFields
 mapping-legal row model name a group em en ea eg t =
     let h = each _ _ t in
     let l : a + 1 + group + 2 ≡ length row = eqb-true _ _ (h 0) in
-    let w1 = integer-on 1 2147483647 model (h 1) 4 (omega arith) word (start (keyFields Mapping) row 0 (omega arith)) em refl in
+    let w1 = integer-on 1 2147483647 model (h 1) 4 (omega arith) quad (start (keyFields Mapping) row 0 (omega arith)) em refl in
     let w2 = sequence-on 1 32 name (h 2) a (omega arith) octet w1 en (omega arith) in
     let w3 = sequence-on 1 32 group (h 3) (a + 1 + group) (omega arith) octet (start (restFields Mapping) row a (omega arith)) eg (omega arith) in
     legal Mapping row w2 (served row w3 l (h 4))
@@ -121,7 +123,7 @@ access-rest-legal row key exact read a write b notify ex er ea ew eb en t =
     served row w4 l (h 5)
 
 pub access-legal : (row : List ℕ) (group a prefix b model level key : ℕ) (fits : Bool) → key ≤ length row
-    → group ≡ getD row 0 0 → a ≡ 1 + group → prefix ≡ getD row a 0 → b ≡ a + 1 + prefix → model ≡ number word (drop b row) → level ≡ getD row (b + 4) 0
+    → group ≡ getD row 0 0 → a ≡ 1 + group → prefix ≡ getD row a 0 → b ≡ a + 1 + prefix → model ≡ number quad (drop b row) → level ≡ getD row (b + 4) 0
     → key ≡ b + 5 → Fits (restFields Access) row key fits
     → joined (within 1 32 group) (within 0 32 prefix ∷ within 0 2147483647 model ∷ within 1 3 level ∷ fits ∷ []) ≡ true
     → rowStep Access row ≡ At key
@@ -130,7 +132,7 @@ access-legal row group a prefix b model level key fits l eg ea ep eb em el ek f 
     let h = each _ _ t in
     let w1 = sequence-on 1 32 group (h 0) a (omega arith) octet (start (keyFields Access) row 0 (omega arith)) eg (omega arith) in
     let w2 = sequence-on 0 32 prefix (h 1) b (omega arith) octet w1 ep (omega arith) in
-    let w3 = integer-on 0 2147483647 model (h 2) (b + 4) (omega arith) word w2 em refl in
+    let w3 = integer-on 0 2147483647 model (h 2) (b + 4) (omega arith) quad w2 em refl in
     let w4 = octet-on 1 3 level (h 3) key l w3 el (omega arith) in
     legal Access row w4 (f (h 4))
 
@@ -144,7 +146,7 @@ view-legal row name a parts b mask kind en ea ep eb em ek t =
     let l : b + 1 + mask + 3 ≡ length row = eqb-true _ _ (h 0) in
     let q : length row - 3 ≡ b + 1 + mask = omega arith in
     let w1 = sequence-on 1 32 name (h 1) a (omega arith) octet (start (keyFields View) row 0 (omega arith)) en (omega arith) in
-    let w2 = sequence-on 1 64 parts (h 2) b (omega arith) word w1 ep eb in
+    let w2 = sequence-on 1 64 parts (h 2) b (omega arith) quad w1 ep eb in
     let w3 = sequence-on 0 16 mask (h 3) (b + 1 + mask) (omega arith) octet (start (restFields View) row b (omega arith)) em (omega arith) in
     let w4 = octet-on 1 2 kind (h 4) (b + 1 + mask + 1) (omega arith) w3 (ek ∙ ap (λ j. getD row j 0) q) refl in
     legal View row w2 (served row w4 (omega arith) (h 5))

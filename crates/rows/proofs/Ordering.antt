@@ -15,10 +15,11 @@ use Rattle.lists.specs.Order.{same, before}
 use Rattle.lists.proofs.Bools.{clash, and-assoc}
 use Rattle.lists.proofs.Orders.{Tri, tri, below, equal, above, before-cons-lt, before-cons-gt, before-cons-eq, before-irrefl}
 use Rattle.rows.specs.declared.Table.{Table}
-use Rattle.rows.specs.Fields.{Width, octet, word, bytes, bytesOf, Field, sequence, integer, faults, values, span, fieldBytes, rowBytes, legal, legals, indexField, index}
+use Rattle.big_endian.specs.BigEndian.{Width, octet, quad, bytes, bytesOf, Octets}
+use Rattle.rows.specs.Fields.{Field, sequence, integer, faults, values, span, fieldBytes, rowBytes, legal, legals, indexField, index}
 use Rattle.rows.specs.Rows.{keyFields, rowFields}
 use Rattle.rows.proofs.Appends.{restFields, row-split, key-values}
-use Rattle.rows.proofs.Inverse.{Bytes, bytes-front, legals-front, legals-first, legals-rest, legals-no-values}
+use Rattle.rows.proofs.Inverse.{bytes-front, legals-front, legals-first, legals-rest, legals-no-values}
 
 -- p and q compare as i and j, whatever follows them
 pub record Compares (p q i j : List ℕ) : Type 0 where
@@ -103,7 +104,7 @@ one x y = compares-self (x ∷ []) (y ∷ []) refl
 
 compares-bytes : (w : Width) (x y : ℕ) → Compares (bytes w x) (bytes w y) (x ∷ []) (y ∷ [])
 compares-bytes octet x y = one x y
-compares-bytes word x y =
+compares-bytes quad x y =
     digit (λ n. n) (λ n. n / 16777216) (λ n. n % 16777216) (λ a b k. omega arith) (λ a b k l. omega arith) (λ a b k l. omega arith) x y
     (digit (λ n. n % 16777216) (λ n. n / 65536 % 256) (λ n. n % 65536) (λ a b k. omega arith) (λ a b k l. omega arith) (λ a b k l. omega arith) x y
     (digit (λ n. n % 65536) (λ n. n / 256 % 256) (λ n. n % 256) (λ a b k. omega arith) (λ a b k l. omega arith) (λ a b k l. omega arith) x y
@@ -176,19 +177,19 @@ module _ (ks : List Field) (xs ys : List (List ℕ)) (p : legals ks xs ≡ true)
 
 -- ---- the keys of two rows without fault
 
-pub compares-front : (ps qs : List Field) (v u : List ℕ) → Bytes v → Bytes u → faults (ps ++ qs) v ≡ none → faults (ps ++ qs) u ≡ none
+pub compares-front : (ps qs : List Field) (v u : List ℕ) → Octets v → Octets u → faults (ps ++ qs) v ≡ none → faults (ps ++ qs) u ≡ none
     → Compares (take (span ps v) v) (take (span ps u) u) (index ps (values ps v)) (index ps (values ps u))
 compares-front ps qs v u b d f g =
     rw (← bytes-front ps qs v b f, ← bytes-front ps qs u d g)
     (compares-row ps (values ps v) (values ps u) (legals-front ps qs v b f) (legals-front ps qs u d g))
 
-pub compares-keys : (t : Table) (v u : List ℕ) → Bytes v → Bytes u → faults (rowFields t) v ≡ none → faults (rowFields t) u ≡ none
+pub compares-keys : (t : Table) (v u : List ℕ) → Octets v → Octets u → faults (rowFields t) v ≡ none → faults (rowFields t) u ≡ none
     → Compares (take (span (keyFields t) v) v) (take (span (keyFields t) u) u)
     (index (keyFields t) (values (keyFields t) v)) (index (keyFields t) (values (keyFields t) u))
 compares-keys t v u b d f g =
     compares-front (keyFields t) (restFields t) v u b d (rw (row-split t) at f) (rw (row-split t) at g)
 
-module _ (t : Table) (v u : List ℕ) (b : Bytes v) (d : Bytes u) (f : faults (rowFields t) v ≡ none) (g : faults (rowFields t) u ≡ none) where
+module _ (t : Table) (v u : List ℕ) (b : Octets v) (d : Octets u) (f : faults (rowFields t) v ≡ none) (g : faults (rowFields t) u ≡ none) where
   pub before-keys : before (take (span (keyFields t) v) v) (take (span (keyFields t) u) u)
       ≡ before (index (keyFields t) (take (length (keyFields t)) (values (rowFields t) v)))
       (index (keyFields t) (take (length (keyFields t)) (values (rowFields t) u)))

@@ -10,9 +10,10 @@ use native.Mathlib.Omega.{arith}
 use lib.ListN.{length, take, drop, getD, length-drop}
 use lib.Seq.{drop-drop}
 use Rattle.rows.specs.declared.Table.the-variants.{Mapping, Access, View}
-use Rattle.rows.specs.Fields.{Width, octet, word, size, number, numbers, Field, sequence, integer, fault, taken, value, faults, values, span}
+use Rattle.big_endian.specs.BigEndian.{Width, octet, quad, size, number, numbers}
+use Rattle.rows.specs.Fields.{Field, sequence, integer, fault, taken, value, faults, values, span}
 use Rattle.rows.specs.Rows.{rowFields, numberAt, mappingOf, accessOf, viewOf}
-pub use Rattle.rows.proofs.Steps.{getD-front, word-front}
+pub use Rattle.big_endian.proofs.BigEndian.{getD-front, quad-front}
 use Rattle.rows.proofs.Sound.{within-least, within-most, sequence-range, sequence-room, integer-range, integer-room, field-room, faults-first, faults-rest, faults-end}
 use Rattle.rows.proofs.Appends.{values-append, faults-append}
 
@@ -80,7 +81,7 @@ pub record IntegerAt (w : Width) (lo hi : ℕ) (row : List ℕ) (at : ℕ) : Typ
 
 pub size-some : (w : Width) → 1 ≤ size w
 size-some octet = omega arith
-size-some word = omega arith
+size-some quad = omega arith
 
 pub integer-at : (w : Width) (lo hi : ℕ) (row : List ℕ) (at : ℕ) → fault (integer w lo hi) (drop at row) ≡ none → IntegerAt w lo hi row at
 integer-at w lo hi row at h =

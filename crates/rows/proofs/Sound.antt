@@ -10,7 +10,8 @@ use lib.Dec.{leb, ltb, eqb}
 use borrow.Author.Tests.{leb-true, eqb-true}
 use Rattle.answers.specs.declared.Fault.{Fault}
 use Rattle.lists.proofs.Bools.{and-left, and-right}
-use Rattle.rows.specs.Fields.{Width, size, number, Field, sequence, integer, within, sequenceFault, integerFault, fault, taken, faults, orElse}
+use Rattle.big_endian.specs.BigEndian.{Width, size, number}
+use Rattle.rows.specs.Fields.{Field, sequence, integer, within, sequenceFault, integerFault, fault, taken, faults, orElse}
 
 -- a test that guards against a fault passed where there is none
 pub cond-none : (b : Bool) (o : Option Fault) (f : Fault) → cond b o (some f) ≡ none → (b ≡ true) × (o ≡ none)

@@ -13,8 +13,10 @@ use lib.Dec.{leb}
 use borrow.Author.Tests.{le-leb, lt-leb, lt-ltb, le-ltb, eq-eqb, ne-eqb}
 use Rattle.answers.specs.declared.Fault.the-variants.{Torn, OutOfRange}
 use Rattle.lists.proofs.Bools.{and-both, and-false-left, and-false-right}
+use Rattle.big_endian.proofs.BigEndian.{getD-front}
 use Rattle.rows.specs.declared.Step.the-variants.{At, Bad}
-use Rattle.rows.specs.Fields.{Width, size, number, word, within, sequenceFault, integerFault, faults}
+use Rattle.big_endian.specs.BigEndian.{Width, size, number, quad}
+use Rattle.rows.specs.Fields.{within, sequenceFault, integerFault, faults}
 use Rattle.rows.specs.Judging.{reached, sequenceStep, integerStep}
 
 -- a range
@@ -29,16 +31,9 @@ module _ (lo hi n : ℕ) where
   within-yes h k = and-both (le-leb lo n h) (le-leb n hi k)
 
 module _ (row : List ℕ) (at : ℕ) where
-  -- the numbers at a place
-  pub getD-front : getD (drop at row) 0 0 ≡ getD row at 0
-  getD-front = getD-drop at row 0 0 ∙ ap (λ i. getD row i 0) (add-zero at)
-
-  pub word-front : number word (drop at row) ≡ getD row at 0 * 16777216 + getD row (at + 1) 0 * 65536 + getD row (at + 2) 0 * 256 + getD row (at + 3) 0
-  word-front = rw (getD-front, getD-drop at row 1 0, getD-drop at row 2 0, getD-drop at row 3 0)
-
   module _ (s lo hi n : ℕ) (e : n ≡ getD row at 0) where
     front : getD (drop at row) 0 0 ≡ n
-    front = getD-front ∙ sym e
+    front = getD-front row at ∙ sym e
 
     pub sequence-none : length row ≤ at → Bad Torn ≡ sequenceStep s lo hi row at
     unfolding sequenceFault

@@ -5,40 +5,9 @@ use mathlib.Core.Option.{Option, none, some}
 use Prim.Native.Nat.{ℕ, zero, suc, _+_, _*_, _/_, _%_}
 use lib.Dec.{eqb, leb, ltb}
 use lib.ListN.{length, drop, getD}
+use Rattle.big_endian.specs.BigEndian.{Width, size, bound, number, bytes, numbers, bytesOf, fit}
 use Rattle.answers.specs.declared.Fault.{Fault}
 use Rattle.answers.specs.declared.Fault.the-variants.{Torn, OutOfRange}
-
--- a part of a field takes 1 byte or 4, big-endian
-pub data Width : Type 0 where
-  octet : Width
-  word : Width
-
-abbrev pub size : Width → ℕ
-size octet = 1
-size word = 4
-
--- a number is below this
-abbrev pub bound : Width → ℕ
-bound octet = 256
-bound word = 4294967296
-
--- the number at the front of v, and a number's bytes
-abbrev pub number : Width → List ℕ → ℕ
-number octet v = getD v 0 0
-number word v = getD v 0 0 * 16777216 + getD v 1 0 * 65536 + getD v 2 0 * 256 + getD v 3 0
-
-abbrev pub bytes : Width → ℕ → List ℕ
-bytes octet x = x ∷ []
-bytes word x = x / 16777216 ∷ x / 65536 % 256 ∷ x / 256 % 256 ∷ x % 256 ∷ []
-
--- the n numbers at the front of v, and numbers' bytes
-abbrev pub numbers : Width → ℕ → List ℕ → List ℕ
-numbers w zero v = []
-numbers w (suc n) v = number w v ∷ numbers w n (drop (size w) v)
-
-abbrev pub bytesOf : Width → List ℕ → List ℕ
-bytesOf w [] = []
-bytesOf w (x ∷ xs) = bytes w x ++ bytesOf w xs
 
 -- a name, a mask or a subtree: a count from lo to hi in a byte, and as many parts. A number from lo to hi.
 -- What a field holds is the list of its parts, of a number the list of that number.
@@ -112,10 +81,6 @@ rowBytes (k ∷ ks) [] = []
 rowBytes (k ∷ ks) (x ∷ xs) = fieldBytes k x ++ rowBytes ks xs
 
 -- ---- legal values: in range, and each part a number of its width
-
-abbrev pub fit : Width → List ℕ → Bool
-fit w [] = true
-fit w (x ∷ xs) = ltb x (bound w) && fit w xs
 
 abbrev pub legal : Field → List ℕ → Bool
 legal (sequence w lo hi) x = within lo hi (length x) && fit w x

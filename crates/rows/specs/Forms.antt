@@ -4,13 +4,14 @@ use Prim.Native.Nat.{ℕ, _+_, _*_}
 use lib.ListN.{getD}
 use Rattle.rows.specs.declared.Form.{Form}
 use Rattle.rows.specs.declared.Form.the-variants.{Name, Subtree, Large, Small}
-use Rattle.rows.specs.Fields.{Field, sequence, integer, octet, word}
+use Rattle.rows.specs.Fields.{Field, sequence, integer}
+use Rattle.big_endian.specs.BigEndian.{octet, quad}
 
 -- the field that a form stands for, and the most bytes that it takes
 abbrev pub fieldOf : Form → Field
 fieldOf (Name lo hi) = sequence octet lo hi
-fieldOf (Subtree lo hi) = sequence word lo hi
-fieldOf (Large lo hi) = integer word lo hi
+fieldOf (Subtree lo hi) = sequence quad lo hi
+fieldOf (Large lo hi) = integer quad lo hi
 fieldOf (Small lo hi) = integer octet lo hi
 
 abbrev pub roomOf : Form → ℕ

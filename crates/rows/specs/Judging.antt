@@ -10,7 +10,8 @@ use Rattle.answers.specs.declared.Fault.{Fault}
 use Rattle.rows.specs.declared.Step.{Step}
 use Rattle.rows.specs.declared.Step.the-variants.{At, Bad}
 use Rattle.rows.specs.declared.Table.{Table}
-use Rattle.rows.specs.Fields.{Width, size, Field, within, sequenceFault, integerFault, fronts, faults, span}
+use Rattle.big_endian.specs.BigEndian.{Width, size}
+use Rattle.rows.specs.Fields.{Field, within, sequenceFault, integerFault, fronts, faults, span}
 use Rattle.rows.specs.Rows.{keyFields, rowFields}
 
 -- the place reached where nothing is wrong

@@ -5,7 +5,8 @@ use Prim.Native.Nat.{ℕ}
 use lib.ListN.{getD}
 use Rattle.rows.specs.declared.Table.{Table}
 use Rattle.rows.specs.declared.Table.the-variants.{Context, Mapping, Access, View}
-use Rattle.rows.specs.Fields.{Field, sequence, integer, octet, word, values, rowBytes, legals, index}
+use Rattle.rows.specs.Fields.{Field, sequence, integer, values, rowBytes, legals, index}
+use Rattle.big_endian.specs.BigEndian.{octet, quad}
 
 -- ---- vacmContextTable: a context name
 
@@ -28,7 +29,7 @@ pub record MappingRow : Type 0 where
   pub status : ℕ
 
 abbrev pub mappingKey : List Field
-mappingKey = integer word 1 2147483647 ∷ sequence octet 1 32 ∷ []
+mappingKey = integer quad 1 2147483647 ∷ sequence octet 1 32 ∷ []
 
 abbrev pub mappingRest : List Field
 mappingRest = sequence octet 1 32 ∷ integer octet 2 5 ∷ integer octet 1 2 ∷ []
@@ -48,7 +49,7 @@ pub record AccessRow : Type 0 where
   pub status : ℕ
 
 abbrev pub accessKey : List Field
-accessKey = sequence octet 1 32 ∷ sequence octet 0 32 ∷ integer word 0 2147483647 ∷ integer octet 1 3 ∷ []
+accessKey = sequence octet 1 32 ∷ sequence octet 0 32 ∷ integer quad 0 2147483647 ∷ integer octet 1 3 ∷ []
 
 abbrev pub accessRest : List Field
 accessRest =
@@ -71,7 +72,7 @@ pub record ViewRow : Type 0 where
   pub status : ℕ
 
 abbrev pub viewKey : List Field
-viewKey = sequence octet 1 32 ∷ sequence word 1 64 ∷ []
+viewKey = sequence octet 1 32 ∷ sequence quad 1 64 ∷ []
 
 abbrev pub viewRest : List Field
 viewRest = sequence octet 0 16 ∷ integer octet 1 2 ∷ integer octet 2 5 ∷ integer octet 1 2 ∷ []

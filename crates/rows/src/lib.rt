@@ -4,7 +4,8 @@ ghost use mathlib.Core.Path.{_≡_};
 ghost use Prim.Native.Nat.{_+_, _*_, _≤_, _<_};
 ghost use lib.ListN.{length, drop, getD};
 ghost use mathlib.Core.List.{[], _++_};
-ghost use Rattle.rows.specs.Fields.{octet, word, number, within, faults};
+ghost use Rattle.big_endian.specs.BigEndian.{octet, quad, number};
+ghost use Rattle.rows.specs.Fields.{within, faults};
 ghost use Rattle.rows.specs.declared.Table.the-variants.{Context, Mapping, Access, View};
 ghost use Rattle.rows.specs.Rows.{contextKey, mappingKey, mappingRest, accessKey, accessRest, viewKey, viewRest, keyFields, restFields, rowFields};
 ghost use Rattle.rows.specs.Forms.{fieldOf, fieldIn};
@@ -121,24 +122,6 @@ pub fn row_len(t: Table) -> usize
 
 // ---- a row's bytes judged
 
-fn wide(x: u8) -> usize
-    ensures { λ r. ⌜ (r ≡ x) × (r < 256) ⌝ }
-{
-    x as usize
-}
-
-// The number that the four bytes at `at` say, big-endian.
-pub fn word_at(row: &[u8], at: usize) -> usize
-    requires { ⌜ at + 4 ≤ length (now row) ⌝ }
-    ensures { λ r. ⌜ (r ≡ number word (drop at (now (row .entry)))) × (r < 4294967296) ⌝ }
-{
-    let a = wide(row[at]);
-    let b = wide(row[at + 1]);
-    let c = wide(row[at + 2]);
-    let d = wide(row[at + 3]);
-    a * 16777216 + b * 65536 + c * 256 + d
-}
-
 // A count byte from `lo` to `hi` and as many parts of `size` bytes.
 fn sequence(row: &[u8], at: usize, size: usize, lo: usize, hi: usize) -> Step
     requires { ⌜ (at ≤ length (now row)) × (size ≤ 4) ⌝ }
@@ -147,7 +130,7 @@ fn sequence(row: &[u8], at: usize, size: usize, lo: usize, hi: usize) -> Step
     if row.len() <= at {
         return Step::Bad(Fault::Torn);
     }
-    let n = wide(row[at]);
+    let n = big_endian::wide(row[at]);
     if n < lo {
         return Step::Bad(Fault::OutOfRange);
     }
@@ -169,7 +152,7 @@ fn small(row: &[u8], at: usize, lo: usize, hi: usize) -> Step
     if row.len() - at < 1 {
         return Step::Bad(Fault::Torn);
     }
-    let n = wide(row[at]);
+    let n = big_endian::wide(row[at]);
     if n < lo {
         return Step::Bad(Fault::OutOfRange);
     }
@@ -182,12 +165,12 @@ fn small(row: &[u8], at: usize, lo: usize, hi: usize) -> Step
 // A number of four bytes from `lo` to `hi`.
 fn large(row: &[u8], at: usize, lo: usize, hi: usize) -> Step
     requires { ⌜ at ≤ length (now row) ⌝ }
-    ensures { λ r. ⌜ r ≡ integerStep word lo hi (now (row .entry)) at ⌝ }
+    ensures { λ r. ⌜ r ≡ integerStep quad lo hi (now (row .entry)) at ⌝ }
 {
     if row.len() - at < 4 {
         return Step::Bad(Fault::Torn);
     }
-    let n = word_at(row, at);
+    let n = big_endian::quad_at(row, at);
     if n < lo {
         return Step::Bad(Fault::OutOfRange);
     }
@@ -369,7 +352,7 @@ fn byte_at(row: &[u8], at: usize) -> usize
     requires { ⌜ at < length (now row) ⌝ }
     ensures { λ r. ⌜ (r ≡ getD (now (row .entry)) at 0) × (r < 256) ⌝ }
 {
-    wide(row[at])
+    big_endian::wide(row[at])
 }
 
 fn within(lo: usize, hi: usize, x: usize) -> bool
@@ -410,7 +393,7 @@ fn mapping_end(row: &[u8]) -> usize
     if n < 10 {
         return 0;
     }
-    let model = word_at(row, 0);
+    let model = big_endian::quad_at(row, 0);
     let name = byte_at(row, 4);
     let a = 5 + name;
     if n < a + 4 {
@@ -470,7 +453,7 @@ fn access_end(row: &[u8]) -> usize
     if n < b + 11 {
         return 0;
     }
-    let model = word_at(row, b);
+    let model = big_endian::quad_at(row, b);
     let level = byte_at(row, b + 4);
     let key = b + 5;
     if !(within(1, 32, group)

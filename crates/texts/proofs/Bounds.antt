@@ -9,10 +9,11 @@ use lib.ListN.{length, drop, getD, length-append}
 use lib.Seq.{getD-drop}
 use Rattle.rows.specs.declared.Table.{Table}
 use Rattle.rows.specs.declared.Table.the-variants.{Context, Mapping, Access, View}
-use Rattle.rows.specs.Fields.{octet, word, number, numbers, Field, sequence, integer, fault, taken, value, faults, values}
+use Rattle.big_endian.specs.BigEndian.{octet, quad, number, numbers}
+use Rattle.rows.specs.Fields.{Field, sequence, integer, fault, taken, value, faults, values}
 use Rattle.rows.specs.Rows.{keyFields}
 use Rattle.rows.proofs.Sound.{faults-first, faults-rest}
-use Rattle.rows.proofs.Inverse.{length-numbers}
+use Rattle.big_endian.proofs.BigEndian.{length-numbers}
 use Rattle.rows.proofs.Places.{sequence-at}
 use Rattle.texts.specs.Texts.{fieldText, fieldsText, tableWord, keyText}
 use Rattle.texts.proofs.Digits.{length-decimal-word}
@@ -25,10 +26,10 @@ Bytes v = (i : ℕ) → getD v i 0 < 256
 bytes-drop : (n : ℕ) (v : List ℕ) → Bytes v → Bytes (drop n v)
 bytes-drop n v h i = rw (getD-drop n v i 0) (h (n + i))
 
-word-bound : (v : List ℕ) → Bytes v → number word v < 4294967296
+word-bound : (v : List ℕ) → Bytes v → number quad v < 4294967296
 word-bound v h = omega (arith, h 0, h 1, h 2, h 3)
 
-words-bound : (n : ℕ) (v : List ℕ) → Bytes v → (i : ℕ) → getD (numbers word n v) i 0 < 4294967296
+words-bound : (n : ℕ) (v : List ℕ) → Bytes v → (i : ℕ) → getD (numbers quad n v) i 0 < 4294967296
 words-bound zero v h i = omega arith
 words-bound (suc n) v h zero = word-bound v h
 words-bound (suc n) v h (suc i) = words-bound n (drop 4 v) (bytes-drop 4 v h) i
@@ -36,22 +37,22 @@ words-bound (suc n) v h (suc i) = words-bound n (drop 4 v) (bytes-drop 4 v h) i
 -- how long a field's text is at most
 most : Field → ℕ
 most (sequence octet lo hi) = 2 * hi + 1
-most (sequence word lo hi) = 11 * hi + 1
+most (sequence quad lo hi) = 11 * hi + 1
 most (integer w lo hi) = 10
 
 field-short : (k : Field) (v : List ℕ) → Bytes v → fault k v ≡ none → length (fieldText k (value k v)) ≤ most k
 unfolding most
 field-short (sequence octet lo hi) v b h =
     omega (arith, length-name (value (sequence octet lo hi) v), length-numbers octet (getD v 0 0) (drop 1 v), sequence-at octet lo hi v 0 h .most)
-field-short (sequence word lo hi) v b h =
+field-short (sequence quad lo hi) v b h =
     omega (
       arith,
-      length-dotted (value (sequence word lo hi) v) (words-bound (getD v 0 0) (drop 1 v) (bytes-drop 1 v b)),
-      length-numbers word (getD v 0 0) (drop 1 v),
-      sequence-at word lo hi v 0 h .most,
+      length-dotted (value (sequence quad lo hi) v) (words-bound (getD v 0 0) (drop 1 v) (bytes-drop 1 v b)),
+      length-numbers quad (getD v 0 0) (drop 1 v),
+      sequence-at quad lo hi v 0 h .most,
     )
 field-short (integer octet lo hi) v b h = length-decimal-word (getD v 0 0) (omega (arith, b 0))
-field-short (integer word lo hi) v b h = length-decimal-word (number word v) (word-bound v b)
+field-short (integer quad lo hi) v b h = length-decimal-word (number quad v) (word-bound v b)
 
 -- each with a space
 mosts : List Field → ℕ

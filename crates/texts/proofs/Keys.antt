@@ -10,7 +10,8 @@ use lib.ListN.{length, take, drop, getD, length-drop}
 use lib.Seq.{take-all}
 use Rattle.rows.specs.declared.Table.{Table}
 use Rattle.rows.specs.declared.Table.the-variants.{Context, Mapping, Access, View}
-use Rattle.rows.specs.Fields.{octet, word, number, Field, sequence, integer, faults, values}
+use Rattle.big_endian.specs.BigEndian.{octet, quad, number}
+use Rattle.rows.specs.Fields.{Field, sequence, integer, faults, values}
 use Rattle.rows.specs.Rows.{keyFields}
 use Rattle.rows.proofs.Sound.{faults-end}
 use Rattle.procedure.specs.Bytes.{nameAt, identifier}
@@ -62,7 +63,7 @@ module _ (key : List ℕ) where
   context-name h = pass-name [] key 0 (past key 0) (omega arith) 0 32 refl h
 
   pub record MappingKey : Type 0 where
-    pub model : Passed (integer word 1 2147483647) (sequence octet 1 32 ∷ []) key 0 4 (number word key ∷ [])
+    pub model : Passed (integer quad 1 2147483647) (sequence octet 1 32 ∷ []) key 0 4 (number quad key ∷ [])
     pub name : Passed (sequence octet 1 32) [] key 4 (past key 4) (nameAt key 4)
 
   pub mapping-key : faults (keyFields Mapping) key ≡ none → MappingKey
@@ -73,29 +74,29 @@ module _ (key : List ℕ) where
 
   -- the prefix at p, the numbers from m on
   pub record AccessKey (p m : ℕ) : Type 0 where
-    pub group : Passed (sequence octet 1 32) (sequence octet 0 32 ∷ integer word 0 2147483647 ∷ integer octet 1 3 ∷ []) key 0 p (nameAt key 0)
-    pub prefix : Passed (sequence octet 0 32) (integer word 0 2147483647 ∷ integer octet 1 3 ∷ []) key p m (nameAt key p)
-    pub model : Passed (integer word 0 2147483647) (integer octet 1 3 ∷ []) key m (m + 4) (number word (drop m key) ∷ [])
+    pub group : Passed (sequence octet 1 32) (sequence octet 0 32 ∷ integer quad 0 2147483647 ∷ integer octet 1 3 ∷ []) key 0 p (nameAt key 0)
+    pub prefix : Passed (sequence octet 0 32) (integer quad 0 2147483647 ∷ integer octet 1 3 ∷ []) key p m (nameAt key p)
+    pub model : Passed (integer quad 0 2147483647) (integer octet 1 3 ∷ []) key m (m + 4) (number quad (drop m key) ∷ [])
     pub level : Passed (integer octet 1 3) [] key (m + 4) (m + 5) (getD key (m + 4) 0 ∷ [])
 
   pub access-key : (p m : ℕ) → p ≡ past key 0 → m ≡ past key p → faults (keyFields Access) key ≡ none → AccessKey p m
   unfolding keyFields
   access-key p m e f h =
-      let a = pass-name (sequence octet 0 32 ∷ integer word 0 2147483647 ∷ integer octet 1 3 ∷ []) key 0 p (omega arith) 1 32 e h in
-      let b = pass-name (integer word 0 2147483647 ∷ integer octet 1 3 ∷ []) key p m (a .inside) 0 32 f (a .rest) in
+      let a = pass-name (sequence octet 0 32 ∷ integer quad 0 2147483647 ∷ integer octet 1 3 ∷ []) key 0 p (omega arith) 1 32 e h in
+      let b = pass-name (integer quad 0 2147483647 ∷ integer octet 1 3 ∷ []) key p m (a .inside) 0 32 f (a .rest) in
       let c = pass-word (integer octet 1 3 ∷ []) key m (m + 4) (b .inside) 0 2147483647 refl (b .rest) in
       record { group = a; prefix = b; model = c; level = pass-octet [] key (m + 4) (m + 5) (c .inside) 1 3 (omega arith) (c .rest) }
 
   -- the subtree's count at s
   pub record ViewKey (s : ℕ) : Type 0 where
-    pub name : Passed (sequence octet 1 32) (sequence word 1 64 ∷ []) key 0 s (nameAt key 0)
-    pub subtree : Passed (sequence word 1 64) [] key s (length key) (identifier (drop (s + 1) key))
+    pub name : Passed (sequence octet 1 32) (sequence quad 1 64 ∷ []) key 0 s (nameAt key 0)
+    pub subtree : Passed (sequence quad 1 64) [] key s (length key) (identifier (drop (s + 1) key))
     pub room : s + 1 ≤ length key
 
   pub view-key : (s : ℕ) → s ≡ past key 0 → faults (keyFields View) key ≡ none → ViewKey s
   unfolding keyFields
   view-key s e h =
-      let a = pass-name (sequence word 1 64 ∷ []) key 0 s (omega arith) 1 32 e h in
+      let a = pass-name (sequence quad 1 64 ∷ []) key 0 s (omega arith) 1 32 e h in
       let z : ℕ = s + 1 + 4 * getD key s 0 in
       let b = pass-subtree [] key s z (a .inside) 1 64 refl (a .rest) in
       let n : z ≡ length key = omega (arith, b .inside, faults-end (drop z key) (b .rest), length-drop z key) in

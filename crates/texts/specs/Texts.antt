@@ -7,7 +7,8 @@ use lib.Dec.{ltb}
 use lib.ListN.{length, take, drop, getD}
 use Rattle.rows.specs.declared.Table.{Table}
 use Rattle.rows.specs.declared.Table.the-variants.{Context, Mapping, Access, View}
-use Rattle.rows.specs.Fields.{octet, word, Field, sequence, integer}
+use Rattle.big_endian.specs.BigEndian.{octet, quad}
+use Rattle.rows.specs.Fields.{Field, sequence, integer}
 use Rattle.rows.specs.Rows.{keyFields}
 
 -- ---- numbers in decimal, no zero in front
@@ -66,7 +67,7 @@ dottedText (x ∷ xs) = decimalText x ++ dotsText xs
 
 abbrev pub fieldText : Field → List ℕ → List ℕ
 fieldText (sequence octet lo hi) x = nameText x
-fieldText (sequence word lo hi) x = dottedText x
+fieldText (sequence quad lo hi) x = dottedText x
 fieldText (integer w lo hi) x = decimalText (getD x 0 0)
 
 unfoldable pub fieldsText : List Field → List (List ℕ) → List ℕ

@@ -134,7 +134,7 @@ fn put_dots_words(out: &mut [u8], at: usize, bytes: &[u8]) -> usize
     let mut o = at;
     let mut k = 0;
     while 4 <= bytes.len() - k {
-        o = put_number(out, o, b'.', rows::word_at(bytes, k) as u64);
+        o = put_number(out, o, b'.', big_endian::quad_at(bytes, k) as u64);
         k += 4;
     }
     o
@@ -147,7 +147,7 @@ pub fn put_dotted_words(out: &mut [u8], at: usize, bytes: &[u8]) -> usize
     if bytes.len() < 4 {
         return put_octet(out, at, b'-');
     }
-    let next = put_decimal(out, at, rows::word_at(bytes, 0) as u64);
+    let next = put_decimal(out, at, big_endian::quad_at(bytes, 0) as u64);
     put_dots_words(out, next, &bytes[4..])
 }
 
@@ -202,7 +202,7 @@ fn put_mapping_key(out: &mut [u8], at: usize, key: &[u8]) -> usize
     ensures { λ r. ⌜ Puts (keyText Mapping (values (keyFields Mapping) (now (key .entry)))) at (now (out .entry)) (now (out .exit)) r ⌝ }
 {
     let a = put_text(out, at, b"mapping");
-    let b = put_number(out, a, b' ', rows::word_at(key, 0) as u64);
+    let b = put_number(out, a, b' ', big_endian::quad_at(key, 0) as u64);
     put_name_field(out, b, key, 4)
 }
 
@@ -217,7 +217,7 @@ fn put_access_key(out: &mut [u8], at: usize, key: &[u8]) -> usize
     let a = put_text(out, at, b"access");
     let b = put_name_field(out, a, key, 0);
     let c = put_name_field(out, b, key, prefix);
-    let d = put_number(out, c, b' ', rows::word_at(key, model) as u64);
+    let d = put_number(out, c, b' ', big_endian::quad_at(key, model) as u64);
     put_number(out, d, b' ', count(key[level]) as u64)
 }
 

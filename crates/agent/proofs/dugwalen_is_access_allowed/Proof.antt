@@ -29,18 +29,6 @@ laid : (c : tie.After-known-told2) → let f = c .before .before .before in let 
     Laid (c .before .surveyed2 .given .0 .0) ≡ surveyed (imageFault w) (layoutOf w)
 laid c = sym (c .before .surveyed2 .given .1) ∙ c .before .before .before .survey-image .ensures
 
-survey-image-requires : tie.Need-survey-image-requires
-survey-image-requires c κs = search needs
-
-enum-known-surveyed : tie.Need-enum-known-surveyed
-enum-known-surveyed c = search needs
-
-fault-number-requires : tie.Need-fault-number-requires
-fault-number-requires c κs = search needs
-
-enum-known-surveyed-2 : tie.Need-enum-known-surveyed-2
-enum-known-surveyed-2 c = search needs
-
 on-tables-requires : tie.Need-on-tables-requires
 on-tables-requires c κs = layout-sound _ (laid c)
 
@@ -60,10 +48,10 @@ pub dugwalen-is-access-allowed-spec : {M : Type 1} → statement M
 dugwalen-is-access-allowed-spec =
     tie.close
     (tie.spec
-    survey-image-requires
-    enum-known-surveyed
-    fault-number-requires
-    enum-known-surveyed-2
+    (λ c κs. search needs)
+    (λ c. search needs)
+    (λ c κs. search needs)
+    (λ c. search needs)
     on-tables-requires
     returns
     returns-2)

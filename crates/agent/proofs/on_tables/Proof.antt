@@ -40,20 +40,11 @@ legal c =
     c .in-range .ensures
     ∙ ap (λ n. inRange (a .security-model) (length (a .security-name .now)) (a .security-level) (a .view-type) (length (a .context-name .now)) n) (sym (length-identifier (a .variable-name .now)))
 
-fault-number-requires : tie.Need-fault-number-requires
-fault-number-requires c κs = search needs
-
 returns : tie.Need-returns
 returns c =
     let s = start (c .before .before) in
     c .fault-number .ensures
     ∙ torn (tables s) (request s) (whole s) (ne-eqb (length (s .args .variable-name .now) % 4) 0 (λ e. omega arith))
-
-in-range-requires : tie.Need-in-range-requires
-in-range-requires c κs = search needs
-
-fault-number-requires-2 : tie.Need-fault-number-requires-2
-fault-number-requires-2 c κs = search needs
 
 returns-2 : tie.Need-returns-2
 returns-2 c =
@@ -61,12 +52,6 @@ returns-2 c =
     let s = start (r .before .before) in
     c .fault-number2 .ensures
     ∙ illegal (tables s) (request s) (whole s) (sym (legal r) ∙ not-true (r .in-range .result) (c .before .if2 .taken))
-
-decide-requires : tie.Need-decide-requires
-decide-requires c κs = search needs
-
-decision-number-requires : tie.Need-decision-number-requires
-decision-number-requires c κs = search needs
 
 returns-3 : tie.Need-returns-3
 returns-3 c =
@@ -81,11 +66,11 @@ pub on-tables-spec : {M : Type 1} → statement M
 on-tables-spec =
     tie.close
     (tie.spec
-    fault-number-requires
+    (λ c κs. search needs)
     returns
-    in-range-requires
-    fault-number-requires-2
+    (λ c κs. search needs)
+    (λ c κs. search needs)
     returns-2
-    decide-requires
-    decision-number-requires
+    (λ c κs. search needs)
+    (λ c κs. search needs)
     returns-3)

@@ -10,14 +10,8 @@ use Rattle.bench.proofs.bench_decide.Lts as lts
 use Rattle.answers.proofs.answer_number.Reads as answer-number-reads
 use Rattle.decision.proofs.is_access_allowed.Reads as is-access-allowed-reads
 
-is-access-allowed-requires : tie.Need-is-access-allowed-requires
-is-access-allowed-requires c κs = search needs
-
-answer-number-requires : tie.Need-answer-number-requires
-answer-number-requires c κs = search needs
-
 returns : tie.Need-returns
 returns c = c .answer-number .ensures ∙ ap answerNumber (c .before .is-access-allowed .ensures)
 
 pub bench-decide-spec : {M : Type 1} → statement M
-bench-decide-spec = tie.close (tie.spec is-access-allowed-requires answer-number-requires returns)
+bench-decide-spec = tie.close (tie.spec (λ c κs. search needs) (λ c κs. search needs) returns)

@@ -11,33 +11,6 @@ use Rattle.procedure.proofs.Layouts.{name-part}
 use Rattle.decision.proofs.by_access.Statement.{statement}
 use Rattle.decision.proofs.by_access.Tie as tie
 
-view-at-requires : tie.Need-view-at-requires
-view-at-requires c κs = search needs
-
-add-from : tie.Need-add-from
-add-from c = search needs
-
-shared-slice-read-wide : tie.Need-shared-slice-read-wide
-shared-slice-read-wide c = search needs
-
-wide-requires : tie.Need-wide-requires
-wide-requires c κs = search needs
-
-add-end : tie.Need-add-end
-add-end c = search needs
-
-sub-by-view : tie.Need-sub-by-view
-sub-by-view c = search needs
-
-part-by-view-start : tie.Need-part-by-view-start
-part-by-view-start c = search needs
-
-part-by-view-end : tie.Need-part-by-view-end
-part-by-view-end c = search needs
-
-by-view-requires : tie.Need-by-view-requires
-by-view-requires c κs = search needs
-
 returns : tie.Need-returns
 returns c =
     let u = c .before .before in
@@ -50,13 +23,13 @@ pub by-access-spec : {M : Type 1} → statement M
 by-access-spec =
     tie.close
     (tie.spec
-    view-at-requires
-    add-from
-    shared-slice-read-wide
-    wide-requires
-    add-end
-    sub-by-view
-    part-by-view-start
-    part-by-view-end
-    by-view-requires
+    (λ c κs. search needs)
+    (λ c. search needs)
+    (λ c. search needs)
+    (λ c κs. search needs)
+    (λ c. search needs)
+    (λ c. search needs)
+    (λ c. search needs)
+    (λ c. search needs)
+    (λ c κs. search needs)
     returns)

@@ -36,39 +36,6 @@ row : (c : tie.After-known-told) → let s = start (c .before .before .before) i
     RowAt Access accessOf (s .args .w .now) (g .0) (g .1 .0) (choice s)
 row c = row-at (chosen (c .before .before .before)) (c .before .found .given .1)
 
-group-at-requires : tie.Need-group-at-requires
-group-at-requires c κs = search needs
-
-add-from : tie.Need-add-from
-add-from c = search needs
-
-shared-slice-read-wide : tie.Need-shared-slice-read-wide
-shared-slice-read-wide c = search needs
-
-wide-requires : tie.Need-wide-requires
-wide-requires c κs = search needs
-
-add-end : tie.Need-add-end
-add-end c = search needs
-
-sub-find-access : tie.Need-sub-find-access
-sub-find-access c = search needs
-
-part-find-access-start : tie.Need-part-find-access-start
-part-find-access-start c = search needs
-
-part-find-access-end : tie.Need-part-find-access-end
-part-find-access-end c = search needs
-
-find-access-requires : tie.Need-find-access-requires
-find-access-requires c κs = search needs
-
-enum-known-found : tie.Need-enum-known-found
-enum-known-found c = search needs
-
-enum-told : tie.Need-enum-told
-enum-told c = search needs
-
 returns : tie.Need-returns
 returns c =
     let f = c .before .before in
@@ -101,17 +68,17 @@ pub by-group-spec : {M : Type 1} → statement M
 by-group-spec =
     tie.close
     (tie.spec
-    group-at-requires
-    add-from
-    shared-slice-read-wide
-    wide-requires
-    add-end
-    sub-find-access
-    part-find-access-start
-    part-find-access-end
-    find-access-requires
-    enum-known-found
-    enum-told
+    (λ c κs. search needs)
+    (λ c. search needs)
+    (λ c. search needs)
+    (λ c κs. search needs)
+    (λ c. search needs)
+    (λ c. search needs)
+    (λ c. search needs)
+    (λ c. search needs)
+    (λ c κs. search needs)
+    (λ c. search needs)
+    (λ c. search needs)
     returns
     sub-by-access
     part-by-access-start

@@ -54,19 +54,10 @@ matched c =
 returns : tie.Need-returns
 returns c = let s = c .before .before .before .before in view-unnamed (variable s) (name s) (rows s) (c .if1 .taken)
 
-find-view-requires : tie.Need-find-view-requires
-find-view-requires c κs = search needs
-
 returns-2 : tie.Need-returns-2
 returns-2 c =
     let f = c .before .before in
     view-empty (variable (start f)) (name (start f)) (rows (start f)) (f .before .if1 .left) (sym (f .find-view .ensures .0) ∙ not-true (f .find-view .result .any) (c .if2 .taken))
-
-enum-known-row : tie.Need-enum-known-row
-enum-known-row c = search needs
-
-enum-told : tie.Need-enum-told
-enum-told c = search needs
 
 returns-3 : tie.Need-returns-3
 returns-3 c =
@@ -97,10 +88,10 @@ by-view-spec =
     tie.close
     (tie.spec
     returns
-    find-view-requires
+    (λ c κs. search needs)
     returns-2
-    enum-known-row
-    enum-told
+    (λ c. search needs)
+    (λ c. search needs)
     returns-3
     sub-includes
     part-includes-start

@@ -32,24 +32,12 @@ row : (c : tie.After-known-told) → let s = start (c .before .before .before .b
     RowAt Mapping mappingOf (s .args .w .now) (g .0) (g .1 .0) (choice s)
 row c = row-at (c .before .before .before .find-mapping .ensures) (c .before .found .given .1)
 
-has-context-requires : tie.Need-has-context-requires
-has-context-requires c κs = search needs
-
 returns : tie.Need-returns
 returns c =
     let h = c .before in
     let a = start h .args in
     context-none (a .w .now) (a .l) (a .model) (a .name .now) (a .level) (a .view-type) (a .context .now) (identifier (a .variable .now))
     (sym (h .has-context .ensures) ∙ not-true (h .has-context .result) (c .if1 .taken))
-
-find-mapping-requires : tie.Need-find-mapping-requires
-find-mapping-requires c κs = search needs
-
-enum-known-found : tie.Need-enum-known-found
-enum-known-found c = search needs
-
-enum-told : tie.Need-enum-told
-enum-told c = search needs
 
 returns-2 : tie.Need-returns-2
 returns-2 c =
@@ -83,11 +71,11 @@ pub decide-spec : {M : Type 1} → statement M
 decide-spec =
     tie.close
     (tie.spec
-    has-context-requires
+    (λ c κs. search needs)
     returns
-    find-mapping-requires
-    enum-known-found
-    enum-told
+    (λ c κs. search needs)
+    (λ c. search needs)
+    (λ c. search needs)
     returns-2
     sub-by-group
     part-by-group-start

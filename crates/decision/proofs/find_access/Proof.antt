@@ -32,12 +32,6 @@ pair-at-requires c κs = scan-length (c .before .loop .inv .scan) (c .loop-test 
 add-e : tie.Need-add-e Inv-loop μ-loop
 add-e c = omega (arith, row-in c)
 
-sub-rank : tie.Need-sub-rank Inv-loop μ-loop
-sub-rank c = search needs
-
-part-rank-start : tie.Need-part-rank-start Inv-loop μ-loop
-part-rank-start c = search needs
-
 part-rank-end : tie.Need-part-rank-end Inv-loop μ-loop
 part-rank-end c = row-in c
 
@@ -45,15 +39,6 @@ rank-requires : tie.Need-rank-requires Inv-loop μ-loop
 rank-requires c κs =
     let p = c .before in
     scan-whole (p .before .before .loop .inv .scan) (p .before .loop-test .taken) _ (p .pair-at .ensures .0)
-
-add-g : tie.Need-add-g Inv-loop μ-loop
-add-g c = search needs
-
-add-i : tie.Need-add-i Inv-loop μ-loop
-add-i c = search needs
-
-loop-less : tie.Need-loop-less Inv-loop μ-loop
-loop-less c = search needs
 
 loop-again : tie.Need-loop-again Inv-loop μ-loop
 loop-again c =
@@ -78,12 +63,12 @@ find-access-spec =
     loop-holds
     pair-at-requires
     add-e
-    sub-rank
-    part-rank-start
+    (λ c. search needs)
+    (λ c. search needs)
     part-rank-end
     rank-requires
-    add-g
-    add-i
-    loop-less
+    (λ c. search needs)
+    (λ c. search needs)
+    (λ c. search needs)
     loop-again
     returns)

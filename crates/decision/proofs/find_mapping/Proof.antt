@@ -42,12 +42,6 @@ pair-at-requires c κs = scan-length (c .before .loop .inv) (c .loop-test .taken
 add-e : tie.Need-add-e Inv-loop μ-loop
 add-e c = omega (arith, row-in c)
 
-sub-maps-principal : tie.Need-sub-maps-principal Inv-loop μ-loop
-sub-maps-principal c = search needs
-
-part-maps-principal-start : tie.Need-part-maps-principal-start Inv-loop μ-loop
-part-maps-principal-start c = search needs
-
 part-maps-principal-end : tie.Need-part-maps-principal-end Inv-loop μ-loop
 part-maps-principal-end c = row-in c
 
@@ -68,15 +62,6 @@ returns c =
       is = sym (cond-true _ _ (sym (c .before .maps-principal .ensures) ∙ c .if1 .taken)) ∙ scan-first k h _ e;
     }
 
-add-g : tie.Need-add-g Inv-loop μ-loop
-add-g c = search needs
-
-add-i : tie.Need-add-i Inv-loop μ-loop
-add-i c = search needs
-
-loop-less : tie.Need-loop-less Inv-loop μ-loop
-loop-less c = search needs
-
 loop-again : tie.Need-loop-again Inv-loop μ-loop
 loop-again c =
     let p = c .before .before .before in
@@ -95,13 +80,13 @@ find-mapping-spec =
     loop-holds
     pair-at-requires
     add-e
-    sub-maps-principal
-    part-maps-principal-start
+    (λ c. search needs)
+    (λ c. search needs)
     part-maps-principal-end
     maps-principal-requires
     returns
-    add-g
-    add-i
-    loop-less
+    (λ c. search needs)
+    (λ c. search needs)
+    (λ c. search needs)
     loop-again
     returns-2)

@@ -57,12 +57,6 @@ pair-at-requires c κs = back-length (looking (c .before) .walk) (more c) (sound
 sub-o : tie.Need-sub-o Inv-loop μ-loop
 sub-o c = back-row (looking (c .before .before) .walk) (more (c .before)) _ (c .pair-at .ensures .0)
 
-sub-sight : tie.Need-sub-sight Inv-loop μ-loop
-sub-sight c = search needs
-
-part-sight-start : tie.Need-part-sight-start Inv-loop μ-loop
-part-sight-start c = search needs
-
 part-sight-end : tie.Need-part-sight-end Inv-loop μ-loop
 part-sight-end c = back-place (looking (c .before .before) .walk) (sound (c .before .before) .inside)
 
@@ -70,9 +64,6 @@ sight-requires : tie.Need-sight-requires Inv-loop μ-loop
 sight-requires c κs =
     let p = c .before in
     back-whole (looking (p .before .before) .walk) (more (p .before)) _ (p .pair-at .ensures .0) (sound (p .before .before))
-
-enum-told : tie.Need-enum-told Inv-loop μ-loop
-enum-told c = search needs
 
 returns : tie.Need-returns Inv-loop μ-loop
 returns c =
@@ -83,15 +74,6 @@ returns c =
       looking-some k (more (p .before)) _ (p .pair-at .ensures .0) _ (v .sight .ensures) (c .enum-told .given .1),
       looking-found k (more (p .before)) _ (p .pair-at .ensures .0) _ (v .sight .ensures) (c .enum-told .given .1) (sound l),
     )
-
-enum-told-2 : tie.Need-enum-told-2 Inv-loop μ-loop
-enum-told-2 c = search needs
-
-sub-i : tie.Need-sub-i Inv-loop μ-loop
-sub-i c = search needs
-
-loop-less : tie.Need-loop-less Inv-loop μ-loop
-loop-less c = search needs
 
 loop-again : tie.Need-loop-again Inv-loop μ-loop
 loop-again c =
@@ -123,14 +105,14 @@ find-view-spec =
     sub-g
     pair-at-requires
     sub-o
-    sub-sight
-    part-sight-start
+    (λ c. search needs)
+    (λ c. search needs)
     part-sight-end
     sight-requires
-    enum-told
+    (λ c. search needs)
     returns
-    enum-told-2
-    sub-i
-    loop-less
+    (λ c. search needs)
+    (λ c. search needs)
+    (λ c. search needs)
     loop-again
     returns-2)

@@ -42,12 +42,6 @@ pair-at-requires c κs = scan-length (c .before .loop .inv) (c .loop-test .taken
 add-e : tie.Need-add-e Inv-loop μ-loop
 add-e c = omega (arith, row-in c)
 
-sub-bears-context : tie.Need-sub-bears-context Inv-loop μ-loop
-sub-bears-context c = search needs
-
-part-bears-context-start : tie.Need-part-bears-context-start Inv-loop μ-loop
-part-bears-context-start c = search needs
-
 part-bears-context-end : tie.Need-part-bears-context-end Inv-loop μ-loop
 part-bears-context-end c = row-in c
 
@@ -61,15 +55,6 @@ returns c =
     let p = c .before .before .before in
     sym (or-left _ (sym (c .before .bears-context .ensures) ∙ c .if1 .taken))
     ∙ scan-first (p .before .before .loop .inv) (p .before .loop-test .taken) _ (p .pair-at .ensures .0)
-
-add-g : tie.Need-add-g Inv-loop μ-loop
-add-g c = search needs
-
-add-i : tie.Need-add-i Inv-loop μ-loop
-add-i c = search needs
-
-loop-less : tie.Need-loop-less Inv-loop μ-loop
-loop-less c = search needs
 
 loop-again : tie.Need-loop-again Inv-loop μ-loop
 loop-again c =
@@ -89,13 +74,13 @@ has-context-spec =
     loop-holds
     pair-at-requires
     add-e
-    sub-bears-context
-    part-bears-context-start
+    (λ c. search needs)
+    (λ c. search needs)
     part-bears-context-end
     bears-context-requires
     returns
-    add-g
-    add-i
-    loop-less
+    (λ c. search needs)
+    (λ c. search needs)
+    (λ c. search needs)
     loop-again
     returns-2)

@@ -57,23 +57,11 @@ bytes c = c .spell .last .1 .0
 parts-below : (c : tie.After-spell) (i : ℕ) → getD (parts c) i 0 < 4294967296
 parts-below c i = omega (arith, c .before .before .before .before .before .before .before .before .shared-slice-known4 .given i)
 
-survey-store-requires : tie.Need-survey-store-requires
-survey-store-requires c κs = search needs
-
-enum-known-surveyed : tie.Need-enum-known-surveyed
-enum-known-surveyed c = search needs
-
-enum-told : tie.Need-enum-told
-enum-told c = search needs
-
 returns : tie.Need-returns
 returns c =
     let f = c .before .before in
     let s = start f in
     answer-unsound (s .args .store .now) (request s) (sym (c .enum-told .given .1) ∙ f .survey-store .ensures)
-
-in-range-requires : tie.Need-in-range-requires
-in-range-requires c κs = search needs
 
 returns-2 : tie.Need-returns-2
 unfolding legalRequest
@@ -88,12 +76,6 @@ spell-requires c κs = (few (c .before), refl)
 
 mul-n : tie.Need-mul-n
 mul-n c = omega (arith, few (c .before .before))
-
-sub-decide : tie.Need-sub-decide
-sub-decide c = search needs
-
-part-decide-start : tie.Need-part-decide-start
-part-decide-start c = search needs
 
 part-decide-end : tie.Need-part-decide-end
 part-decide-end c = let l = c .before in spelt-room (parts l) (parts-below l) (bytes l) (l .spell .ensures)
@@ -116,16 +98,16 @@ pub is-access-allowed-spec : {M : Type 1} → statement M
 is-access-allowed-spec =
     tie.close
     (tie.spec
-    survey-store-requires
-    enum-known-surveyed
-    enum-told
+    (λ c κs. search needs)
+    (λ c. search needs)
+    (λ c. search needs)
     returns
-    in-range-requires
+    (λ c κs. search needs)
     returns-2
     spell-requires
     mul-n
-    sub-decide
-    part-decide-start
+    (λ c. search needs)
+    (λ c. search needs)
     part-decide-end
     decide-requires
     returns-3)

@@ -31,35 +31,18 @@ told : (c : tie.After-put-decimal2) → let s = c .before .before .before .befor
 told c = let s = c .before .before .before .before .before .before .before .before .before .before .before .before in step (faultText (s .args .f)) (10 ∷ []) (spaced (c .before .before .before .before .before)) (rw (c .before .fault-number .ensures) at (c .put-decimal2 .ensures))
 
 -- ERP
--- src/lib.rt:296:9
 put-decimal-requires : tie.Need-put-decimal-requires
 put-decimal-requires c κs = let s = c .before .before in begun-fits (decimalText 0) (32 ∷ (faultText (s .args .f) ++ (10 ∷ []))) (s .args .out .now) (fits s)
 
--- src/lib.rt:297:9
 put-octet-requires : tie.Need-put-octet-requires
 put-octet-requires c κs = let s = c .before .before .before .before .before .before in room (32 ∷ []) (faultText (s .args .f) ++ (10 ∷ [])) (counted (c .before .before .before))
 
--- src/lib.rt:298:49
-fault-number-requires : tie.Need-fault-number-requires
-fault-number-requires c κs = search needs
-
--- src/lib.rt:298:49
-cast-put-decimal : tie.Need-cast-put-decimal
-cast-put-decimal c = search needs
-
--- src/lib.rt:298:9
 put-decimal-requires-2 : tie.Need-put-decimal-requires-2
 put-decimal-requires-2 c κs = let s = c .before .before .before .before .before .before .before .before .before .before .before in rw (c .fault-number .ensures) (room (faultText (s .args .f)) (10 ∷ []) (spaced (c .before .before .before .before)))
 
--- src/lib.rt:299:5
 put-octet-requires-2 : tie.Need-put-octet-requires-2
 put-octet-requires-2 c κs = told (c .before .before .before) .fits
 
--- src/lib.rt:292:1
-same-length : tie.Need-same-length
-same-length c = search needs
-
--- src/lib.rt:292:1
 returns : tie.Need-returns
 returns c = let s = c .before .before .before .before .before .before .before .before .before .before .before .before .before .before .before .before .before .before in shown (fits s) (last (10 ∷ []) (told (c .before .before .before .before .before .before)) (c .before .before .put-octet2 .ensures))
 
@@ -69,9 +52,9 @@ answer-fault-spec =
     (tie.spec
     put-decimal-requires
     put-octet-requires
-    fault-number-requires
-    cast-put-decimal
+    (λ c κs. search needs)
+    (λ c. search needs)
     put-decimal-requires-2
     put-octet-requires-2
-    same-length
+    (λ c. search needs)
     returns)

@@ -10,54 +10,27 @@ use Rattle.desk.proofs.play.Reads as play-reads
 use Rattle.texts.proofs.put_decimal.Reads as put-decimal-reads
 use Rattle.texts.proofs.put_octet.Reads as put-octet-reads
 
--- src/lib.rt:480:9
 put-decimal-requires : tie.Need-put-decimal-requires
 put-decimal-requires c κs = number-fits (c .before .before .before .before .args .number) (c .before .before .before .before .args .out .now) (c .before .before .before .before .pre)
 
--- src/lib.rt:481:9
 put-octet-requires : tie.Need-put-octet-requires
 put-octet-requires c κs = space-fits (c .before .before .before .before .before .before .before .before .args .number) (c .before .before .before .before .before .before .before .before .pre) (c .before .before .before .put-decimal .ensures)
 
--- src/lib.rt:482:14
 add-to : tie.Need-add-to
 add-to c = omega (arith, front-short (c .before .before .before .before .before .before .before .before .before .before .before .args .number) (c .before .before .before .before .before .before .before .before .before .before .before .pre) (c .before .before .before .before .before .before .put-decimal .ensures) (c .before .before .put-octet .ensures))
 
--- src/lib.rt:483:31
-sub-play : tie.Need-sub-play
-sub-play c = search needs
-
--- src/lib.rt:483:31
-part-play-start : tie.Need-part-play-start
-part-play-start c = search needs
-
--- src/lib.rt:483:31
 part-play-end : tie.Need-part-play-end
 part-play-end c = let l = size (c .before .before .before .before .before .before .before .before .before .before .before .before .args .number) (c .before .before .before .before .before .before .before .before .before .before .before .before .pre) (c .before .before .before .before .before .before .before .put-decimal .ensures) (c .before .before .before .put-octet .ensures) in
     let f = front-short (c .before .before .before .before .before .before .before .before .before .before .before .before .args .number) (c .before .before .before .before .before .before .before .before .before .before .before .before .pre) (c .before .before .before .before .before .before .before .put-decimal .ensures) (c .before .before .before .put-octet .ensures) in
     let p = c .before .before .before .before .before .before .before .before .before .before .before .before .pre in
     omega (arith, l, f, p)
 
--- src/lib.rt:483:9
-play-requires : tie.Need-play-requires
-play-requires c κs = search needs
-
--- src/lib.rt:484:19
 add-newline : tie.Need-add-newline
 add-newline c = omega (arith, newline-fits (c .before .before .before .before .before .before .before .before .before .before .before .before .before .before .before .before .before .before .args .number) (c .before .before .before .before .before .before .before .before .before .before .before .before .before .before .before .before .before .before .pre) (c .before .before .before .before .before .before .before .before .before .before .before .before .before .put-decimal .ensures) (c .before .before .before .before .before .before .before .before .before .put-octet .ensures) (c .before .before .before .before .play .last .1 .1 .0) (c .before .before .before .before .play .kept .1 .1 .0) (c .before .before .before .before .play .ensures .inside))
 
--- src/lib.rt:485:5
 put-octet-requires-2 : tie.Need-put-octet-requires-2
 put-octet-requires-2 c κs = newline-fits (c .before .before .before .before .before .before .before .before .before .before .before .before .before .before .before .before .before .before .before .args .number) (c .before .before .before .before .before .before .before .before .before .before .before .before .before .before .before .before .before .before .before .pre) (c .before .before .before .before .before .before .before .before .before .before .before .before .before .before .put-decimal .ensures) (c .before .before .before .before .before .before .before .before .before .before .put-octet .ensures) (c .before .before .before .before .before .play .last .1 .1 .0) (c .before .before .before .before .before .play .kept .1 .1 .0) (c .before .before .before .before .before .play .ensures .inside)
 
--- src/lib.rt:476:1
-same-length : tie.Need-same-length
-same-length c = search needs
-
--- src/lib.rt:476:1
-same-length-2 : tie.Need-same-length-2
-same-length-2 c = search needs
-
--- src/lib.rt:476:1
 returns : tie.Need-returns
 returns c = shows-line (c .before .before .before .before .before .before .before .before .before .before .before .before .before .before .before .before .before .before .before .before .before .before .args .number) (c .before .before .before .before .before .before .before .before .before .before .before .before .before .before .before .before .before .before .before .before .before .before .pre) (c .before .before .before .before .before .before .before .before .before .before .before .before .before .before .before .before .before .put-decimal .ensures) (c .before .before .before .before .before .before .before .before .before .before .before .before .before .put-octet .ensures) (c .before .before .before .before .before .before .before .before .play .last .1 .1 .0) (c .before .before .before .before .before .before .before .before .play .kept .1 .1 .0) (c .before .before .before .before .before .before .before .before .play .ensures .inside) (c .before .before .before .before .before .before .before .before .play .ensures .plays) (c .before .before .put-octet2 .ensures)
 
@@ -68,12 +41,12 @@ answer-line-spec =
     put-decimal-requires
     put-octet-requires
     add-to
-    sub-play
-    part-play-start
+    (λ c. search needs)
+    (λ c. search needs)
     part-play-end
-    play-requires
+    (λ c κs. search needs)
     add-newline
     put-octet-requires-2
-    same-length
-    same-length-2
+    (λ c. search needs)
+    (λ c. search needs)
     returns)

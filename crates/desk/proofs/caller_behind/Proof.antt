@@ -23,68 +23,19 @@ name : (c : tie.After-known-told2) → let k = c .before .before .before .before
 name c = name-leads (c .before .before .before .before .before .name-behind .last .1 .1 .0) (c .before .before .before .before .before .name-behind .ensures) (c .before .second .given .1) .0
 
 -- ERP
--- src/lib.rt:174:9
-number-behind-requires : tie.Need-number-behind-requires
-number-behind-requires c κs = search needs
-
--- src/lib.rt:175:22
-enum-known-first : tie.Need-enum-known-first
-enum-known-first c = search needs
-
--- src/lib.rt:176:9
-enum-told : tie.Need-enum-told
-enum-told c = search needs
-
--- src/lib.rt:176:9
 returns : tie.Need-returns
 returns c = let s = c .before .before .before .before .before in principal-none (wordsAfter (s .args .end) (s .args .line .now)) (number-none (s .args .end) (s .args .line .now) (c .before .before .number-behind .ensures) (c .enum-told .given .1))
 
--- src/lib.rt:178:9
 name-behind-requires : tie.Need-name-behind-requires
 name-behind-requires c κs = let s = c .before .before .before .before .before .before .before in ((s .pre .0 .0, model (c .before) .inside), s .pre .1)
 
--- src/lib.rt:179:20
-enum-known-second : tie.Need-enum-known-second
-enum-known-second c = search needs
-
--- src/lib.rt:180:9
-enum-told-2 : tie.Need-enum-told-2
-enum-told-2 c = search needs
-
--- src/lib.rt:180:9
-same-length : tie.Need-same-length
-same-length c = search needs
-
--- src/lib.rt:180:9
 returns-2 : tie.Need-returns-2
 returns-2 c = let k = c .before .before .before .before .before .before in principal-unnamed (model k) (name-none (k .before .first .given .0 .1 .0) (k .before .before .before .before .before .before .args .line .now) (c .before .before .before .before .name-behind .last .1 .1 .0) (c .before .before .before .before .name-behind .ensures) (c .enum-told2 .given .1))
 
--- src/lib.rt:182:9
-number-behind-requires-2 : tie.Need-number-behind-requires-2
-number-behind-requires-2 c κs = search needs
-
--- src/lib.rt:183:22
-enum-known-third : tie.Need-enum-known-third
-enum-known-third c = search needs
-
--- src/lib.rt:184:9
-enum-told-3 : tie.Need-enum-told-3
-enum-told-3 c = search needs
-
--- src/lib.rt:184:9
-same-length-2 : tie.Need-same-length-2
-same-length-2 c = search needs
-
--- src/lib.rt:184:9
 returns-3 : tie.Need-returns-3
 returns-3 c = let n = c .before .before .before in let k = n .before .before .before .before .before .before .before in
     principal-unleveled (model k) (name n) (number-none (n .before .second .given .0 .1 .0) (k .before .before .before .before .before .before .args .line .now) (c .before .before .number-behind2 .ensures) (c .enum-told3 .given .1))
 
--- src/lib.rt:170:1
-same-length-3 : tie.Need-same-length-3
-same-length-3 c = search needs
-
--- src/lib.rt:170:1
 returns-4 : tie.Need-returns-4
 returns-4 c = let n = c .before .before .before .before in let k = n .before .before .before .before .before .before .before in let l = number-leads (c .before .before .before .number-behind2 .ensures) (c .before .third .given .1) in
     (principal-is (model k) (name n) l, name-leads (n .before .before .before .before .before .name-behind .last .1 .1 .0) (n .before .before .before .before .before .name-behind .ensures) (n .before .second .given .1) .1, l .inside)
@@ -93,19 +44,19 @@ pub caller-behind-spec : {M : Type 1} → statement M
 caller-behind-spec =
     tie.close
     (tie.spec
-    number-behind-requires
-    enum-known-first
-    enum-told
+    (λ c κs. search needs)
+    (λ c. search needs)
+    (λ c. search needs)
     returns
     name-behind-requires
-    enum-known-second
-    enum-told-2
-    same-length
+    (λ c. search needs)
+    (λ c. search needs)
+    (λ c. search needs)
     returns-2
-    number-behind-requires-2
-    enum-known-third
-    enum-told-3
-    same-length-2
+    (λ c κs. search needs)
+    (λ c. search needs)
+    (λ c. search needs)
+    (λ c. search needs)
     returns-3
-    same-length-3
+    (λ c. search needs)
     returns-4)

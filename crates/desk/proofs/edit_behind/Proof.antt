@@ -22,95 +22,39 @@ found : (c : tie.After-known-told) → wordAt (c .before .before .before .before
 found c = sym (c .before .before .before .next-word .ensures) ∙ c .before .word .given .1
 
 -- ERP
--- src/lib.rt:185:9
-next-word-requires : tie.Need-next-word-requires
-next-word-requires c κs = search needs
-
--- src/lib.rt:186:18
-enum-known-word : tie.Need-enum-known-word
-enum-known-word c = search needs
-
--- src/lib.rt:187:9
-enum-told : tie.Need-enum-told
-enum-told c = search needs
-
--- src/lib.rt:187:9
 returns : tie.Need-returns
 returns c = let s = c .before .before .before .before .before .args in says-missing (s .end) (s .line .now) (s .bytes .now) (sym (c .before .before .next-word .ensures) ∙ c .enum-told .given .1)
 
--- src/lib.rt:189:25
 sub-are-same : tie.Need-sub-are-same
 sub-are-same c = omega (arith, word-found (c .before .before .before .before .before .before .args .end) (c .before .before .before .before .before .before .args .line .now) (found (c)) .forward)
 
--- src/lib.rt:189:25
 part-are-same-start : tie.Need-part-are-same-start
 part-are-same-start c = word-found (c .before .before .before .before .before .before .args .end) (c .before .before .before .before .before .before .args .line .now) (found (c)) .forward
 
--- src/lib.rt:189:25
 part-are-same-end : tie.Need-part-are-same-end
 part-are-same-end c = word-found (c .before .before .before .before .before .before .args .end) (c .before .before .before .before .before .before .args .line .now) (found (c)) .inside
 
--- src/lib.rt:189:38
-slice-aggregate-are-same : tie.Need-slice-aggregate-are-same
-slice-aggregate-are-same c = search needs
-
--- src/lib.rt:189:8
-are-same-requires : tie.Need-are-same-requires
-are-same-requires c κs = search needs
-
--- src/lib.rt:190:23
 row-behind-requires : tie.Need-row-behind-requires
 row-behind-requires c κs = let s = c .before .before .before .before .before .before .before .before .before .before .before in ((s .pre .0 .0, word-found (s .args .end) (s .args .line .now) (found (c .before .before .before .before .before)) .inside), s .pre .1)
 
--- src/lib.rt:190:9
-put-of-requires : tie.Need-put-of-requires
-put-of-requires c κs = search needs
-
--- src/lib.rt:190:9
-same-length : tie.Need-same-length
-same-length c = search needs
-
--- src/lib.rt:190:9
 returns-2 : tie.Need-returns-2
 returns-2 c = let s = c .before .before .before .before .before .before .before .before .before .before .before .before .before .before .before .args in rw (c .put-of .ensures) (says-put (s .end) (s .line .now) (c .before .before .before .row-behind .last .1 .1 .0) (found (c .before .before .before .before .before .before .before .before .before)) (sym (c .before .before .before .before .before .before .are-same .ensures) ∙ c .before .before .before .before .before .if1 .taken) (c .before .before .before .row-behind .ensures))
 
--- src/lib.rt:192:25
 sub-are-same-2 : tie.Need-sub-are-same-2
 sub-are-same-2 c = omega (arith, word-found (c .before .before .before .before .before .before .before .before .before .before .args .end) (c .before .before .before .before .before .before .before .before .before .before .args .line .now) (found (c .before .before .before .before)) .forward)
 
--- src/lib.rt:192:25
 part-are-same-start-2 : tie.Need-part-are-same-start-2
 part-are-same-start-2 c = word-found (c .before .before .before .before .before .before .before .before .before .before .args .end) (c .before .before .before .before .before .before .before .before .before .before .args .line .now) (found (c .before .before .before .before)) .forward
 
--- src/lib.rt:192:25
 part-are-same-end-2 : tie.Need-part-are-same-end-2
 part-are-same-end-2 c = word-found (c .before .before .before .before .before .before .before .before .before .before .args .end) (c .before .before .before .before .before .before .before .before .before .before .args .line .now) (found (c .before .before .before .before)) .inside
 
--- src/lib.rt:192:38
-slice-aggregate-are-same-2 : tie.Need-slice-aggregate-are-same-2
-slice-aggregate-are-same-2 c = search needs
-
--- src/lib.rt:192:8
-are-same-requires-2 : tie.Need-are-same-requires-2
-are-same-requires-2 c κs = search needs
-
--- src/lib.rt:193:26
 key-behind-requires : tie.Need-key-behind-requires
 key-behind-requires c κs = let s = c .before .before .before .before .before .before .before .before .before .before .before .before .before .before .before in ((s .pre .0 .0, word-found (s .args .end) (s .args .line .now) (found (c .before .before .before .before .before .before .before .before .before)) .inside), s .pre .1)
 
--- src/lib.rt:193:9
-remove-of-requires : tie.Need-remove-of-requires
-remove-of-requires c κs = search needs
-
--- src/lib.rt:193:9
-same-length-2 : tie.Need-same-length-2
-same-length-2 c = search needs
-
--- src/lib.rt:193:9
 returns-3 : tie.Need-returns-3
 returns-3 c = let s = c .before .before .before .before .before .before .before .before .before .before .before .before .before .before .before .before .before .before .before .args in rw (c .remove-of .ensures) (says-remove (s .end) (s .line .now) (c .before .before .before .key-behind .last .1 .1 .0) (found (c .before .before .before .before .before .before .before .before .before .before .before .before .before)) (sym (c .before .before .before .before .before .before .before .before .before .before .are-same .ensures) ∙ c .before .before .before .before .before .before .before .before .before .if1 .left) (sym (c .before .before .before .before .before .before .are-same2 .ensures) ∙ c .before .before .before .before .before .if2 .taken) (c .before .before .before .key-behind .ensures))
 
--- src/lib.rt:181:1
 returns-4 : tie.Need-returns-4
 returns-4 c = let s = c .before .before .before .before .before .before .before .before .before .before .before .before .before .before .args in says-other (s .end) (s .line .now) (s .bytes .now) (found (c .before .before .before .before .before .before .before .before)) (sym (c .before .before .before .before .before .are-same .ensures) ∙ c .before .before .before .before .if1 .left) (sym (c .before .are-same2 .ensures) ∙ c .if2 .left)
 
@@ -118,26 +62,26 @@ pub edit-behind-spec : {M : Type 1} → statement M
 edit-behind-spec =
     tie.close
     (tie.spec
-    next-word-requires
-    enum-known-word
-    enum-told
+    (λ c κs. search needs)
+    (λ c. search needs)
+    (λ c. search needs)
     returns
     sub-are-same
     part-are-same-start
     part-are-same-end
-    slice-aggregate-are-same
-    are-same-requires
+    (λ c. search needs)
+    (λ c κs. search needs)
     row-behind-requires
-    put-of-requires
-    same-length
+    (λ c κs. search needs)
+    (λ c. search needs)
     returns-2
     sub-are-same-2
     part-are-same-start-2
     part-are-same-end-2
-    slice-aggregate-are-same-2
-    are-same-requires-2
+    (λ c. search needs)
+    (λ c κs. search needs)
     key-behind-requires
-    remove-of-requires
-    same-length-2
+    (λ c κs. search needs)
+    (λ c. search needs)
     returns-3
     returns-4)

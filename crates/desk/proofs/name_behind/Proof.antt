@@ -20,60 +20,25 @@ found : (c : tie.After-known-told) → wordAt (c .before .before .before .before
 found c = sym (c .before .before .before .next-word .ensures) ∙ c .before .word .given .1
 
 -- ERP
--- src/lib.rt:153:9
-next-word-requires : tie.Need-next-word-requires
-next-word-requires c κs = search needs
-
--- src/lib.rt:154:18
-enum-known-word : tie.Need-enum-known-word
-enum-known-word c = search needs
-
--- src/lib.rt:155:9
-enum-told : tie.Need-enum-told
-enum-told c = search needs
-
--- src/lib.rt:155:9
 returns : tie.Need-returns
 returns c = first-missing hexOctets (c .before .before .before .before .before .args .end) (c .before .before .before .before .before .args .line .now) (sym (c .before .before .next-word .ensures) ∙ c .enum-told .given .1)
 
--- src/lib.rt:157:36
 sub-hex-octets : tie.Need-sub-hex-octets
 sub-hex-octets c = omega (arith, word-found (c .before .before .before .before .before .before .args .end) (c .before .before .before .before .before .before .args .line .now) (found c) .forward)
 
--- src/lib.rt:157:36
 part-hex-octets-start : tie.Need-part-hex-octets-start
 part-hex-octets-start c = word-found (c .before .before .before .before .before .before .args .end) (c .before .before .before .before .before .before .args .line .now) (found c) .forward
 
--- src/lib.rt:157:36
 part-hex-octets-end : tie.Need-part-hex-octets-end
 part-hex-octets-end c = word-found (c .before .before .before .before .before .before .args .end) (c .before .before .before .before .before .before .args .line .now) (found c) .inside
 
--- src/lib.rt:157:9
 hex-octets-requires : tie.Need-hex-octets-requires
 hex-octets-requires c κs = let s = c .before .before .before .before .before .before .before .before in let w = c .before .before .before .word .given .0 in
     between-short (w .0) (w .1 .0) (s .args .line .now) (s .args .name .now) (s .pre .0 .0) (s .pre .1)
 
--- src/lib.rt:158:22
-enum-known-filled : tie.Need-enum-known-filled
-enum-known-filled c = search needs
-
--- src/lib.rt:159:9
-enum-told-2 : tie.Need-enum-told-2
-enum-told-2 c = search needs
-
--- src/lib.rt:159:9
-same-length : tie.Need-same-length
-same-length c = search needs
-
--- src/lib.rt:159:9
 returns-2 : tie.Need-returns-2
 returns-2 c = first-bad hexOctets (c .before .before .before .before .before .before .before .before .before .before .before .before .before .args .end) (c .before .before .before .before .before .before .before .before .before .before .before .before .before .args .line .now) (found (c .before .before .before .before .before .before .before)) (filled-bad (c .before .before .before .before .hex-octets .ensures) (c .enum-told2 .given .1))
 
--- src/lib.rt:149:1
-same-length-2 : tie.Need-same-length-2
-same-length-2 c = search needs
-
--- src/lib.rt:149:1
 returns-3 : tie.Need-returns-3
 returns-3 c = let f = c .before .before .before .before .before .hex-octets .ensures in let q = c .before .filled .given .1 in
     (leads hexOctets (c .before .before .before .before .before .before .before .before .before .before .before .before .before .before .args .end) (c .before .before .before .before .before .before .before .before .before .before .before .before .before .before .args .line .now) (found (c .before .before .before .before .before .before .before .before)) (filled-is f q), filled-in f q)
@@ -82,17 +47,17 @@ pub name-behind-spec : {M : Type 1} → statement M
 name-behind-spec =
     tie.close
     (tie.spec
-    next-word-requires
-    enum-known-word
-    enum-told
+    (λ c κs. search needs)
+    (λ c. search needs)
+    (λ c. search needs)
     returns
     sub-hex-octets
     part-hex-octets-start
     part-hex-octets-end
     hex-octets-requires
-    enum-known-filled
-    enum-told-2
-    same-length
+    (λ c. search needs)
+    (λ c. search needs)
+    (λ c. search needs)
     returns-2
-    same-length-2
+    (λ c. search needs)
     returns-3)

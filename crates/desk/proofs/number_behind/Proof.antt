@@ -20,51 +20,21 @@ found : (c : tie.After-known-told) → wordAt (c .before .before .before .before
 found c = sym (c .before .before .before .next-word .ensures) ∙ c .before .word .given .1
 
 -- ERP
--- src/lib.rt:102:9
-next-word-requires : tie.Need-next-word-requires
-next-word-requires c κs = search needs
-
--- src/lib.rt:103:18
-enum-known-word : tie.Need-enum-known-word
-enum-known-word c = search needs
-
--- src/lib.rt:104:9
-enum-told : tie.Need-enum-told
-enum-told c = search needs
-
--- src/lib.rt:104:9
 returns : tie.Need-returns
 returns c = first-missing decimal (c .before .before .before .before .args .end) (c .before .before .before .before .args .line .now) (sym (c .before .before .next-word .ensures) ∙ c .enum-told .given .1)
 
--- src/lib.rt:106:33
 sub-decimal : tie.Need-sub-decimal
 sub-decimal c = omega (arith, word-found (c .before .before .before .before .before .args .end) (c .before .before .before .before .before .args .line .now) (found c) .forward)
 
--- src/lib.rt:106:33
 part-decimal-start : tie.Need-part-decimal-start
 part-decimal-start c = word-found (c .before .before .before .before .before .args .end) (c .before .before .before .before .before .args .line .now) (found c) .forward
 
--- src/lib.rt:106:33
 part-decimal-end : tie.Need-part-decimal-end
 part-decimal-end c = word-found (c .before .before .before .before .before .args .end) (c .before .before .before .before .before .args .line .now) (found c) .inside
 
--- src/lib.rt:106:9
-decimal-requires : tie.Need-decimal-requires
-decimal-requires c κs = search needs
-
--- src/lib.rt:107:20
-enum-known-number : tie.Need-enum-known-number
-enum-known-number c = search needs
-
--- src/lib.rt:108:9
-enum-told-2 : tie.Need-enum-told-2
-enum-told-2 c = search needs
-
--- src/lib.rt:108:9
 returns-2 : tie.Need-returns-2
 returns-2 c = first-bad decimal (c .before .before .before .before .before .before .before .before .before .args .end) (c .before .before .before .before .before .before .before .before .before .args .line .now) (found (c .before .before .before .before)) (number-bad (c .enum-told2 .given .1) (c .before .before .decimal .ensures))
 
--- src/lib.rt:99:1
 returns-3 : tie.Need-returns-3
 returns-3 c = leads decimal (c .before .before .before .before .before .before .before .before .before .before .args .end) (c .before .before .before .before .before .before .before .before .before .before .args .line .now) (found (c .before .before .before .before .before)) (number-is _ (c .before .number .given .1) (c .before .before .before .decimal .ensures))
 
@@ -72,15 +42,15 @@ pub number-behind-spec : {M : Type 1} → statement M
 number-behind-spec =
     tie.close
     (tie.spec
-    next-word-requires
-    enum-known-word
-    enum-told
+    (λ c κs. search needs)
+    (λ c. search needs)
+    (λ c. search needs)
     returns
     sub-decimal
     part-decimal-start
     part-decimal-end
-    decimal-requires
-    enum-known-number
-    enum-told-2
+    (λ c κs. search needs)
+    (λ c. search needs)
+    (λ c. search needs)
     returns-2
     returns-3)

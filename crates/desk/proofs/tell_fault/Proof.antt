@@ -8,22 +8,9 @@ use Rattle.desk.proofs.tell_fault.Lts as lts
 use Rattle.answers.proofs.fault_number.Reads as fault-number-reads
 use Rattle.desk.proofs.tell_number.Reads as tell-number-reads
 
--- src/lib.rt:45:22
-fault-number-requires : tie.Need-fault-number-requires
-fault-number-requires c κs = search needs
-
--- src/lib.rt:45:5
-tell-number-requires : tie.Need-tell-number-requires
-tell-number-requires c κs = search needs
-
--- src/lib.rt:41:1
-same-length : tie.Need-same-length
-same-length c = search needs
-
--- src/lib.rt:41:1
 returns : tie.Need-returns
 returns c = rw (c .before .before .before .fault-number .ensures) at (c .before .before .tell-number .ensures)
 
 pub tell-fault-spec : {M : Type 1} → statement M
 tell-fault-spec =
-    tie.close (tie.spec fault-number-requires tell-number-requires same-length returns)
+    tie.close (tie.spec (λ c κs. search needs) (λ c κs. search needs) (λ c. search needs) returns)

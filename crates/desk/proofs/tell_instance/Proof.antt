@@ -8,7 +8,6 @@ use Rattle.texts.specs.Texts.{decimalText, keyText}
 use Rattle.texts.proofs.Laying.{Onward, start, room, step, last}
 use Rattle.desk.specs.Plays.{instanceText}
 use Rattle.desk.proofs.Showing.{shown}
-use Rattle.desk.proofs.Telling.{instanceIs, instance-fits}
 use native.Mathlib.Omega.{arith}
 use borrow.Author.Needs.{needs}
 use Rattle.desk.proofs.tell_instance.Statement.{statement}
@@ -41,31 +40,18 @@ spaced : (c : tie.After-put-octet) → let s = c .before .before .before .before
 spaced c = let s = c .before .before .before .before .before .before .before .before .before .before .before .before .before in step (32 ∷ []) (keyed s) (counted (c .before .before .before .before)) (c .put-octet .ensures)
 
 -- ERP
--- src/lib.rt:281:37
-slice-aggregate-put-text : tie.Need-slice-aggregate-put-text
-slice-aggregate-put-text c = search needs
-
--- src/lib.rt:281:9
 put-text-requires : tie.Need-put-text-requires
 put-text-requires c κs = let s = c .before .before .before .before in begun-fits instanceText (decimalText (s .args .column) ++ (32 ∷ keyed s)) (s .args .out .now) (fits (c .before .before .before))
 
--- src/lib.rt:282:9
 put-decimal-requires : tie.Need-put-decimal-requires
 put-decimal-requires c κs = let s = c .before .before .before .before .before .before .before .before in room (decimalText (s .args .column)) (32 ∷ keyed s) (named (c .before .before .before))
 
--- src/lib.rt:283:9
 put-octet-requires : tie.Need-put-octet-requires
 put-octet-requires c κs = let s = c .before .before .before .before .before .before .before .before .before .before .before .before in room (32 ∷ []) (keyed s) (counted (c .before .before .before))
 
--- src/lib.rt:284:5
 put-key-requires : tie.Need-put-key-requires
 put-key-requires c κs = (c .before .before .before .before .before .before .before .before .before .before .before .before .before .before .before .before .pre .0, spaced (c .before .before .before) .fits)
 
--- src/lib.rt:277:1
-same-length : tie.Need-same-length
-same-length c = search needs
-
--- src/lib.rt:277:1
 returns : tie.Need-returns
 returns c = let s = c .before .before .before .before .before .before .before .before .before .before .before .before .before .before .before .before .before .before .before in shown (fits (c .before .before .before .before .before .before .before .before .before .before .before .before .before .before .before .before .before .before)) (last (keyed s) (spaced (c .before .before .before .before .before .before)) (c .before .before .put-key .ensures))
 
@@ -73,10 +59,10 @@ pub tell-instance-spec : {M : Type 1} → statement M
 tell-instance-spec =
     tie.close
     (tie.spec
-    slice-aggregate-put-text
+    (λ c. search needs)
     put-text-requires
     put-decimal-requires
     put-octet-requires
     put-key-requires
-    same-length
+    (λ c. search needs)
     returns)

@@ -7,17 +7,11 @@ use Rattle.desk.proofs.tell_number.Reads as reads
 use Rattle.desk.proofs.tell_number.Lts as lts
 use Rattle.texts.proofs.put_decimal.Reads as put-decimal-reads
 
--- src/lib.rt:38:5
 put-decimal-requires : tie.Need-put-decimal-requires
 put-decimal-requires c κs = let s = c .before .before in decimal-fits (s .args .n) (s .args .out .now) (omega (arith, s .pre))
 
--- src/lib.rt:34:1
-same-length : tie.Need-same-length
-same-length c = search needs
-
--- src/lib.rt:34:1
 returns : tie.Need-returns
 returns c = let s = c .before .before .before .before .before in shown (decimal-fits (s .args .n) (s .args .out .now) (omega (arith, s .pre))) (c .before .before .put-decimal .ensures)
 
 pub tell-number-spec : {M : Type 1} → statement M
-tell-number-spec = tie.close (tie.spec put-decimal-requires same-length returns)
+tell-number-spec = tie.close (tie.spec put-decimal-requires (λ c. search needs) returns)

@@ -11,9 +11,6 @@ use Rattle.edits.proofs.admit.Tie as tie
 abbrev start : tie.After-is-context → tie.Start
 start i = i .before .before .before .before
 
-is-context-requires : tie.Need-is-context-requires
-is-context-requires c κs = search needs
-
 returns : tie.Need-returns
 returns c = rw (sym (c .before .is-context .ensures) ∙ c .if1 .taken)
 
@@ -25,14 +22,8 @@ judged : (j : tie.After-judge-edit) → let a = start (j .before .before) .args 
     admission false (j .judge-edit .result) ≡ admission (isContext (a .t)) (judgement (tablesAt (a .w .now) (a .l)) (callerOf (a .model) (a .name .now) (a .level)) (remove (a .t) (a .key .now)))
 judged j = let e = j .before in ap₂ admission (sym (e .if1 .left) ∙ e .before .is-context .ensures) (j .judge-edit .ensures)
 
-enum-known-judged : tie.Need-enum-known-judged
-enum-known-judged c = search needs
-
 returns-2 : tie.Need-returns-2
 returns-2 c = rw (c .before .judged .given .1) at (judged (c .before .before .before))
-
-enum-told : tie.Need-enum-told
-enum-told c = search needs
 
 returns-3 : tie.Need-returns-3
 returns-3 c = rw (c .enum-told .given .1) at (judged (c .before .before))
@@ -41,10 +32,10 @@ pub admit-spec : {M : Type 1} → statement M
 admit-spec =
     tie.close
     (tie.spec
-    is-context-requires
+    (λ c κs. search needs)
     returns
     judge-edit-requires
-    enum-known-judged
+    (λ c. search needs)
     returns-2
-    enum-told
+    (λ c. search needs)
     returns-3)

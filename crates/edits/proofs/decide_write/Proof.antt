@@ -29,24 +29,6 @@ parts-below l i = omega (arith, l .before .before .shared-slice-known3 .given i)
 spell-requires : tie.Need-spell-requires
 spell-requires c κs = (c .before .before .before .before .pre .1, refl)
 
-mul-n : tie.Need-mul-n
-mul-n c = search needs
-
-sub-decide : tie.Need-sub-decide
-sub-decide c = search needs
-
-part-decide-start : tie.Need-part-decide-start
-part-decide-start c = search needs
-
-part-decide-end : tie.Need-part-decide-end
-part-decide-end c = search needs
-
-sub-decide-2 : tie.Need-sub-decide-2
-sub-decide-2 c = search needs
-
-part-decide-start-2 : tie.Need-part-decide-start-2
-part-decide-start-2 c = search needs
-
 part-decide-end-2 : tie.Need-part-decide-end-2
 part-decide-end-2 c = let l = c .before .before .before in spelt-room (parts l) (parts-below l) (bytes l) (l .spell .ensures)
 
@@ -65,12 +47,12 @@ decide-write-spec =
     tie.close
     (tie.spec
     spell-requires
-    mul-n
-    sub-decide
-    part-decide-start
-    part-decide-end
-    sub-decide-2
-    part-decide-start-2
+    (λ c. search needs)
+    (λ c. search needs)
+    (λ c. search needs)
+    (λ c. search needs)
+    (λ c. search needs)
+    (λ c. search needs)
     part-decide-end-2
     decide-requires
     returns)

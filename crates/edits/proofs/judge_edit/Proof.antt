@@ -11,32 +11,11 @@ use Rattle.edits.proofs.judge_edit.Tie as tie
 abbrev start : tie.After-encode → tie.Start
 start n = n .before .before .before .before .before .before
 
-status-column-requires : tie.Need-status-column-requires
-status-column-requires c κs = search needs
-
-slice-aggregate-encode : tie.Need-slice-aggregate-encode
-slice-aggregate-encode c = search needs
-
-encode-requires : tie.Need-encode-requires
-encode-requires c κs = search needs
-
-enum-known-written : tie.Need-enum-known-written
-enum-known-written c = search needs
-
-enum-told : tie.Need-enum-told
-enum-told c = search needs
-
 returns : tie.Need-returns
 returns c =
     let n = c .before .before .before in
     let s = start n in
     absurd (encoded-always (s .args .t) (s .args .key .now) (s .pre .1) (n .before .before .status-column .ensures) (n .encode .ensures) refl (c .enum-told .given .1))
-
-sub-decide-write : tie.Need-sub-decide-write
-sub-decide-write c = search needs
-
-part-decide-write-start : tie.Need-part-decide-write-start
-part-decide-write-start c = search needs
 
 part-decide-write-end : tie.Need-part-decide-write-end
 part-decide-write-end c =
@@ -66,14 +45,14 @@ pub judge-edit-spec : {M : Type 1} → statement M
 judge-edit-spec =
     tie.close
     (tie.spec
-    status-column-requires
-    slice-aggregate-encode
-    encode-requires
-    enum-known-written
-    enum-told
+    (λ c κs. search needs)
+    (λ c. search needs)
+    (λ c κs. search needs)
+    (λ c. search needs)
+    (λ c. search needs)
     returns
-    sub-decide-write
-    part-decide-write-start
+    (λ c. search needs)
+    (λ c. search needs)
     part-decide-write-end
     decide-write-requires
     returns-2)

@@ -17,12 +17,6 @@ use Rattle.edits.proofs.may_put.Tie as tie
 held : (e : tie.Else1) → let a = e .before .before .before .args in (a .p .from + 2 ≤ a .p .end) × (a .p .end ≤ length (a .w .now))
 held e = e .before .before .before .pre .1 (not-false _ (e .if1 .left))
 
-storage-requires : tie.Need-storage-requires
-storage-requires c κs = search needs
-
-is-fixed-requires : tie.Need-is-fixed-requires
-is-fixed-requires c κs = search needs
-
 returns : tie.Need-returns
 unfolding mayPut
 returns c =
@@ -41,12 +35,6 @@ part-storage-end c = omega (arith, held c .1)
 storage-requires-2 : tie.Need-storage-requires-2
 storage-requires-2 c κs = let a = c .before .before .before .before .args in piece-room (a .w .now) (a .p .from) (a .p .end) (held (c .before))
 
-storage-requires-3 : tie.Need-storage-requires-3
-storage-requires-3 c κs = search needs
-
-may-replace-requires : tie.Need-may-replace-requires
-may-replace-requires c κs = search needs
-
 returns-2 : tie.Need-returns-2
 returns-2 c =
     let n = c .before in
@@ -58,13 +46,13 @@ pub may-put-spec : {M : Type 1} → statement M
 may-put-spec =
     tie.close
     (tie.spec
-    storage-requires
-    is-fixed-requires
+    (λ c κs. search needs)
+    (λ c κs. search needs)
     returns
     sub-storage
     part-storage-start
     part-storage-end
     storage-requires-2
-    storage-requires-3
-    may-replace-requires
+    (λ c κs. search needs)
+    (λ c κs. search needs)
     returns-2)

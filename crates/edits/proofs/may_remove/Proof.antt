@@ -30,9 +30,6 @@ part-storage-end c = omega (arith, held c .1)
 storage-requires : tie.Need-storage-requires
 storage-requires c κs = let a = c .before .before .before .args in piece-room (a .w .now) (a .p .from) (a .p .end) (held (c .before))
 
-is-fixed-requires : tie.Need-is-fixed-requires
-is-fixed-requires c κs = search needs
-
 returns-2 : tie.Need-returns-2
 unfolding mayRemove
 returns-2 c =
@@ -49,5 +46,5 @@ may-remove-spec =
     part-storage-start
     part-storage-end
     storage-requires
-    is-fixed-requires
+    (λ c κs. search needs)
     returns-2)

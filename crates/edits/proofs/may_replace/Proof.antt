@@ -15,9 +15,6 @@ returns-2 : tie.Need-returns-2
 unfolding mayPut
 returns-2 c = let a = c .before .before .args in rw (ne-eqb (a .old) 5 (c .before .if1 .left), eq-eqb (a .old) 4 (c .if2 .taken))
 
-is-fixed-requires : tie.Need-is-fixed-requires
-is-fixed-requires c κs = search needs
-
 returns-3 : tie.Need-returns-3
 unfolding mayPut
 returns-3 c =
@@ -26,4 +23,4 @@ returns-3 c =
     rw (ne-eqb (a .old) 5 (e .before .if1 .left), ne-eqb (a .old) 4 (e .if2 .left)) (ap not (c .is-fixed .ensures))
 
 pub may-replace-spec : {M : Type 1} → statement M
-may-replace-spec = tie.close (tie.spec returns returns-2 is-fixed-requires returns-3)
+may-replace-spec = tie.close (tie.spec returns returns-2 (λ c κs. search needs) returns-3)

@@ -28,47 +28,14 @@ whole : (t : tie.After-known-told2) → let a = start (t .before .before .before
     (faults (rowFields (a .t)) (a .row .now) ≡ none) × (span (keyFields (a .t)) (a .row .now) ≡ t .before .step .given .0 .0)
 whole t = reached-at _ _ _ (sym (t .before .before .before .judge .ensures) ∙ t .before .step .given .1)
 
-survey-store-requires : tie.Need-survey-store-requires
-survey-store-requires c κs = search needs
-
-enum-known-surveyed : tie.Need-enum-known-surveyed
-enum-known-surveyed c = search needs
-
-enum-told : tie.Need-enum-told
-enum-told c = search needs
-
-same-length : tie.Need-same-length
-same-length c = search needs
-
 returns : tie.Need-returns
 returns c = let f = c .before .before in edits-unsound _ _ (store-bad _ (sym (c .enum-told .given .1) ∙ f .survey-store .ensures))
-
-judge-requires : tie.Need-judge-requires
-judge-requires c κs = search needs
-
-enum-known-step : tie.Need-enum-known-step
-enum-known-step c = search needs
-
-enum-told-2 : tie.Need-enum-told-2
-enum-told-2 c = search needs
-
-same-length-2 : tie.Need-same-length-2
-same-length-2 c = search needs
 
 returns-2 : tie.Need-returns-2
 returns-2 c =
     let j = c .before .before in
     let a = start (j .before) .args in
     owner-illegal _ _ (laid (j .before) .0) (put-illegal (a .t) (a .row .now) (reached-bad _ _ _ (sym (j .judge .ensures) ∙ c .enum-told2 .given .1)))
-
-extent-of-requires : tie.Need-extent-of-requires
-extent-of-requires c κs = search needs
-
-sub-seek : tie.Need-sub-seek
-sub-seek c = search needs
-
-part-seek-start : tie.Need-part-seek-start
-part-seek-start c = search needs
 
 part-seek-end : tie.Need-part-seek-end
 part-seek-end c =
@@ -88,9 +55,6 @@ put-at-requires c κs =
     let a = start k .args in
     ((laid k .0, laid k .1, whole t .0), (sym (whole t .1), sought-slice (a .store .now) (a .row .now) (t .before .step .given .0 .0) (x .extent-of .ensures) (s .seek .ensures)))
 
-same-length-3 : tie.Need-same-length-3
-same-length-3 c = search needs
-
 returns-3 : tie.Need-returns-3
 returns-3 c =
     let p = c .before .before in
@@ -102,21 +66,21 @@ pub owner-put-spec : {M : Type 1} → statement M
 owner-put-spec =
     tie.close
     (tie.spec
-    survey-store-requires
-    enum-known-surveyed
-    enum-told
-    same-length
+    (λ c κs. search needs)
+    (λ c. search needs)
+    (λ c. search needs)
+    (λ c. search needs)
     returns
-    judge-requires
-    enum-known-step
-    enum-told-2
-    same-length-2
+    (λ c κs. search needs)
+    (λ c. search needs)
+    (λ c. search needs)
+    (λ c. search needs)
     returns-2
-    extent-of-requires
-    sub-seek
-    part-seek-start
+    (λ c κs. search needs)
+    (λ c. search needs)
+    (λ c. search needs)
     part-seek-end
     seek-requires
     put-at-requires
-    same-length-3
+    (λ c. search needs)
     returns-3)

@@ -25,41 +25,14 @@ laid k = store-laid (start k .args .store .now) (sym (k .before .surveyed .given
 whole : (t : tie.After-enum-told2) → let a = start (t .before .before .before) .args in faults (keyFields (a .t)) (a .key .now) ≡ none
 whole t = reached-at _ _ _ (sym (t .before .before .judge-key .ensures) ∙ t .enum-told2 .given .1) .0
 
-survey-store-requires : tie.Need-survey-store-requires
-survey-store-requires c κs = search needs
-
-enum-known-surveyed : tie.Need-enum-known-surveyed
-enum-known-surveyed c = search needs
-
-enum-told : tie.Need-enum-told
-enum-told c = search needs
-
-same-length : tie.Need-same-length
-same-length c = search needs
-
 returns : tie.Need-returns
 returns c = let f = c .before .before in edits-unsound _ _ (store-bad _ (sym (c .enum-told .given .1) ∙ f .survey-store .ensures))
-
-judge-key-requires : tie.Need-judge-key-requires
-judge-key-requires c κs = search needs
-
-enum-told-2 : tie.Need-enum-told-2
-enum-told-2 c = search needs
-
-enum-told-3 : tie.Need-enum-told-3
-enum-told-3 c = search needs
-
-same-length-2 : tie.Need-same-length-2
-same-length-2 c = search needs
 
 returns-2 : tie.Need-returns-2
 returns-2 c =
     let j = c .before .before in
     let a = start (j .before) .args in
     owner-illegal _ _ (laid (j .before) .0) (remove-illegal (a .t) (a .key .now) (reached-bad _ _ _ (sym (j .judge-key .ensures) ∙ c .enum-told3 .given .1)))
-
-extent-of-requires : tie.Need-extent-of-requires
-extent-of-requires c κs = search needs
 
 seek-requires : tie.Need-seek-requires
 seek-requires c κs = let x = c .before in let k = x .before .before .before .before in inside-laid (laid k .0) (laid k .1) (start k .args .t) (x .extent-of .ensures)
@@ -70,9 +43,6 @@ remove-at-requires c κs =
     let x = s .before .before in
     let k = x .before .before .before .before in
     ((laid k .0, laid k .1, whole (x .before)), rw (← x .extent-of .ensures) (s .seek .ensures))
-
-same-length-3 : tie.Need-same-length-3
-same-length-3 c = search needs
 
 returns-3 : tie.Need-returns-3
 returns-3 c =
@@ -85,18 +55,18 @@ pub owner-remove-spec : {M : Type 1} → statement M
 owner-remove-spec =
     tie.close
     (tie.spec
-    survey-store-requires
-    enum-known-surveyed
-    enum-told
-    same-length
+    (λ c κs. search needs)
+    (λ c. search needs)
+    (λ c. search needs)
+    (λ c. search needs)
     returns
-    judge-key-requires
-    enum-told-2
-    enum-told-3
-    same-length-2
+    (λ c κs. search needs)
+    (λ c. search needs)
+    (λ c. search needs)
+    (λ c. search needs)
     returns-2
-    extent-of-requires
+    (λ c κs. search needs)
     seek-requires
     remove-at-requires
-    same-length-3
+    (λ c. search needs)
     returns-3)

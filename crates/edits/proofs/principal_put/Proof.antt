@@ -9,7 +9,7 @@ use borrow.Author.Tests.{not-true, not-false}
 use Rattle.rows.specs.Fields.{faults, span}
 use Rattle.rows.specs.Rows.{keyFields, rowFields}
 use Rattle.rows.proofs.Appends.{key-room}
-use Rattle.rows.proofs.Inverse.{Bytes}
+use Rattle.big_endian.specs.BigEndian.{Octets}
 use Rattle.rows.proofs.Judging.{reached-at, reached-bad}
 use Rattle.image.specs.Layout.{layoutOf}
 use Rattle.image.specs.Image.{tablesAt}
@@ -52,7 +52,7 @@ whole : (t : tie.After-known-told2) → let a = start (sound t) .args in
     (faults (rowFields (a .t)) (a .row .now) ≡ none) × (span (keyFields (a .t)) (a .row .now) ≡ t .before .step .given .0 .0)
 whole t = reached-at _ _ _ (sym (t .before .before .before .judge .ensures) ∙ t .before .step .given .1)
 
-row-bytes : (k : tie.After-known-told) → Bytes (start k .args .row .now)
+row-bytes : (k : tie.After-known-told) → Octets (start k .args .row .now)
 row-bytes k i = omega (arith, k .before .before .before .before .before .shared-slice-known2 .given i)
 
 -- what was admitted or denied is the put
@@ -68,44 +68,14 @@ admitted j =
     (ap (λ v. judgement T (caller s) (remove (s .args .t) v)) (key-part (s .args .t) (s .args .row .now) (row-bytes k) (whole t .0) _ (whole t .1))
     ∙ put-judged (s .args .t) (s .args .row .now) (row-bytes k) (whole t .0) T (caller s))
 
-survey-store-requires : tie.Need-survey-store-requires
-survey-store-requires c κs = search needs
-
-enum-known-surveyed : tie.Need-enum-known-surveyed
-enum-known-surveyed c = search needs
-
-enum-told : tie.Need-enum-told
-enum-told c = search needs
-
-same-length : tie.Need-same-length
-same-length c = search needs
-
 returns : tie.Need-returns
 returns c = let f = c .before .before in edits-unsound _ _ (store-bad _ (sym (c .enum-told .given .1) ∙ f .survey-store .ensures))
-
-is-caller-requires : tie.Need-is-caller-requires
-is-caller-requires c κs = search needs
-
-same-length-2 : tie.Need-same-length-2
-same-length-2 c = search needs
 
 returns-2 : tie.Need-returns-2
 returns-2 c =
     let i = c .before in
     let s = start (i .before) in
     caller-illegal (caller s) (asked s) _ (laid (i .before) .0) (sym (i .is-caller .ensures) ∙ not-true _ (c .if1 .taken))
-
-judge-requires : tie.Need-judge-requires
-judge-requires c κs = search needs
-
-enum-known-step : tie.Need-enum-known-step
-enum-known-step c = search needs
-
-enum-told-2 : tie.Need-enum-told-2
-enum-told-2 c = search needs
-
-same-length-3 : tie.Need-same-length-3
-same-length-3 c = search needs
 
 returns-3 : tie.Need-returns-3
 returns-3 c =
@@ -114,12 +84,6 @@ returns-3 c =
     let s = start k in
     edit-illegal (caller s) (asked s) _ (laid k .0)
     (put-illegal (s .args .t) (s .args .row .now) (reached-bad _ _ _ (sym (j .judge .ensures) ∙ c .enum-told2 .given .1)))
-
-sub-admit : tie.Need-sub-admit
-sub-admit c = search needs
-
-part-admit-start : tie.Need-part-admit-start
-part-admit-start c = search needs
 
 part-admit-end : tie.Need-part-admit-end
 part-admit-end c =
@@ -134,12 +98,6 @@ admit-requires c κs =
     let a = start k .args in
     (sound-laid (laid k .0) (laid k .1), rw (key-part (a .t) (a .row .now) (row-bytes k) (whole t .0) _ (whole t .1)) (key-whole (a .t) (a .row .now) (row-bytes k) (whole t .0)))
 
-enum-known-admission : tie.Need-enum-known-admission
-enum-known-admission c = search needs
-
-same-length-4 : tie.Need-same-length-4
-same-length-4 c = search needs
-
 returns-4 : tie.Need-returns-4
 returns-4 c =
     let j = c .before .before .before in
@@ -148,9 +106,6 @@ returns-4 c =
     let s = start k in
     principal-denied (caller s) (asked s) _ (laid k .0) (legal (ranged t)) (put-legal (s .args .t) (s .args .row .now) (whole t .0)) (laid k .1)
     (sym (c .before .admission .given .1) ∙ admitted j)
-
-enum-told-3 : tie.Need-enum-told-3
-enum-told-3 c = search needs
 
 -- the put is admitted
 granted : (m : tie.After-enum-told3) → let k = sound (m .before .before .before .before .before) in let s = start k in
@@ -163,9 +118,6 @@ put-allowed-requires c κs =
     let t = m .before .before .before .before .before in
     let k = sound t in
     ((laid k .0, laid k .1, whole t .0), (sym (whole t .1), granted-free (isContext (start k .args .t)) _ (granted m)))
-
-same-length-5 : tie.Need-same-length-5
-same-length-5 c = search needs
 
 returns-5 : tie.Need-returns-5
 returns-5 c =
@@ -181,27 +133,27 @@ pub principal-put-spec : {M : Type 1} → statement M
 principal-put-spec =
     tie.close
     (tie.spec
-    survey-store-requires
-    enum-known-surveyed
-    enum-told
-    same-length
+    (λ c κs. search needs)
+    (λ c. search needs)
+    (λ c. search needs)
+    (λ c. search needs)
     returns
-    is-caller-requires
-    same-length-2
+    (λ c κs. search needs)
+    (λ c. search needs)
     returns-2
-    judge-requires
-    enum-known-step
-    enum-told-2
-    same-length-3
+    (λ c κs. search needs)
+    (λ c. search needs)
+    (λ c. search needs)
+    (λ c. search needs)
     returns-3
-    sub-admit
-    part-admit-start
+    (λ c. search needs)
+    (λ c. search needs)
     part-admit-end
     admit-requires
-    enum-known-admission
-    same-length-4
+    (λ c. search needs)
+    (λ c. search needs)
     returns-4
-    enum-told-3
+    (λ c. search needs)
     put-allowed-requires
-    same-length-5
+    (λ c. search needs)
     returns-5)

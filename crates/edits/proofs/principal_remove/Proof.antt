@@ -47,44 +47,14 @@ sound t = ranged t .before .before
 whole : (t : tie.After-enum-told2) → let a = start (sound t) .args in faults (keyFields (a .t)) (a .key .now) ≡ none
 whole t = reached-at _ _ _ (sym (t .before .before .judge-key .ensures) ∙ t .enum-told2 .given .1) .0
 
-survey-store-requires : tie.Need-survey-store-requires
-survey-store-requires c κs = search needs
-
-enum-known-surveyed : tie.Need-enum-known-surveyed
-enum-known-surveyed c = search needs
-
-enum-told : tie.Need-enum-told
-enum-told c = search needs
-
-same-length : tie.Need-same-length
-same-length c = search needs
-
 returns : tie.Need-returns
 returns c = let f = c .before .before in edits-unsound _ _ (store-bad _ (sym (c .enum-told .given .1) ∙ f .survey-store .ensures))
-
-is-caller-requires : tie.Need-is-caller-requires
-is-caller-requires c κs = search needs
-
-same-length-2 : tie.Need-same-length-2
-same-length-2 c = search needs
 
 returns-2 : tie.Need-returns-2
 returns-2 c =
     let i = c .before in
     let s = start (i .before) in
     caller-illegal (caller s) (asked s) _ (laid (i .before) .0) (sym (i .is-caller .ensures) ∙ not-true _ (c .if1 .taken))
-
-judge-key-requires : tie.Need-judge-key-requires
-judge-key-requires c κs = search needs
-
-enum-told-2 : tie.Need-enum-told-2
-enum-told-2 c = search needs
-
-enum-told-3 : tie.Need-enum-told-3
-enum-told-3 c = search needs
-
-same-length-3 : tie.Need-same-length-3
-same-length-3 c = search needs
 
 returns-3 : tie.Need-returns-3
 returns-3 c =
@@ -97,12 +67,6 @@ returns-3 c =
 admit-requires : tie.Need-admit-requires
 admit-requires c κs = let t = c .before in let k = sound t in (sound-laid (laid k .0) (laid k .1), whole t)
 
-enum-known-admission : tie.Need-enum-known-admission
-enum-known-admission c = search needs
-
-same-length-4 : tie.Need-same-length-4
-same-length-4 c = search needs
-
 returns-4 : tie.Need-returns-4
 returns-4 c =
     let j = c .before .before .before in
@@ -111,9 +75,6 @@ returns-4 c =
     let s = start k in
     principal-denied (caller s) (asked s) _ (laid k .0) (legal (ranged t)) (remove-legal (s .args .t) (s .args .key .now) (whole t)) (laid k .1)
     (sym (c .before .admission .given .1) ∙ j .admit .ensures)
-
-enum-told-4 : tie.Need-enum-told-4
-enum-told-4 c = search needs
 
 -- the removal is admitted
 granted : (m : tie.After-enum-told4) → let k = sound (m .before .before .before .before) in let s = start k in
@@ -126,9 +87,6 @@ remove-allowed-requires c κs =
     let t = m .before .before .before .before in
     let k = sound t in
     ((laid k .0, laid k .1, whole t), granted-free (isContext (start k .args .t)) _ (granted m))
-
-same-length-5 : tie.Need-same-length-5
-same-length-5 c = search needs
 
 returns-5 : tie.Need-returns-5
 returns-5 c =
@@ -144,24 +102,24 @@ pub principal-remove-spec : {M : Type 1} → statement M
 principal-remove-spec =
     tie.close
     (tie.spec
-    survey-store-requires
-    enum-known-surveyed
-    enum-told
-    same-length
+    (λ c κs. search needs)
+    (λ c. search needs)
+    (λ c. search needs)
+    (λ c. search needs)
     returns
-    is-caller-requires
-    same-length-2
+    (λ c κs. search needs)
+    (λ c. search needs)
     returns-2
-    judge-key-requires
-    enum-told-2
-    enum-told-3
-    same-length-3
+    (λ c κs. search needs)
+    (λ c. search needs)
+    (λ c. search needs)
+    (λ c. search needs)
     returns-3
     admit-requires
-    enum-known-admission
-    same-length-4
+    (λ c. search needs)
+    (λ c. search needs)
     returns-4
-    enum-told-4
+    (λ c. search needs)
     remove-allowed-requires
-    same-length-5
+    (λ c. search needs)
     returns-5)

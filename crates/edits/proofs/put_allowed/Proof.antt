@@ -5,7 +5,7 @@ use native.Mathlib.Omega.{arith}
 use borrow.Author.Needs.{needs}
 use borrow.Author.Tests.{not-true, not-false}
 use Rattle.rows.proofs.Appends.{key-room}
-use Rattle.rows.proofs.Inverse.{Bytes}
+use Rattle.big_endian.specs.BigEndian.{Octets}
 use Rattle.image.specs.Layout.{layoutOf}
 use Rattle.exchange.specs.Exchange.{extentOf, Sought}
 use Rattle.exchange.proofs.Stores.{rowKey}
@@ -17,10 +17,10 @@ abbrev start : tie.After-extent-of → tie.Start
 start x = x .before .before .before
 
 -- bytes are below 256
-bytes : (x : tie.After-extent-of) → Bytes (start x .args .w .now)
+bytes : (x : tie.After-extent-of) → Octets (start x .args .w .now)
 bytes x i = omega (arith, x .before .before .slice-known .given i)
 
-row-bytes : (x : tie.After-extent-of) → Bytes (start x .args .row .now)
+row-bytes : (x : tie.After-extent-of) → Octets (start x .args .row .now)
 row-bytes x i = omega (arith, x .before .shared-slice-known .given i)
 
 -- the place found
@@ -31,15 +31,6 @@ sought k =
     let s = start x in
     let a = s .args in
     sought-row (a .t) (a .w .now) (a .row .now) (s .pre .0 .1) (s .pre .1 .0) (sought-slice (a .w .now) (a .row .now) (a .key) (x .extent-of .ensures) (k .seek .ensures))
-
-extent-of-requires : tie.Need-extent-of-requires
-extent-of-requires c κs = search needs
-
-sub-seek : tie.Need-sub-seek
-sub-seek c = search needs
-
-part-seek-start : tie.Need-part-seek-start
-part-seek-start c = search needs
 
 part-seek-end : tie.Need-part-seek-end
 part-seek-end c = let s = start (c .before) in omega (arith, key-room (s .args .t) (s .args .row .now) (s .pre .0 .2), s .pre .1 .0)
@@ -53,9 +44,6 @@ may-put-requires c κs =
     let x = k .before .before .before in
     let s = start x in
     put-storage _ _ (s .pre .0 .0) (bytes x) _ (row-bytes x) (s .pre .0 .2) (sought k) (s .pre .1 .1)
-
-same-length : tie.Need-same-length
-same-length c = search needs
 
 returns : tie.Need-returns
 returns c =
@@ -73,9 +61,6 @@ put-at-requires c κs =
     let a = s .args in
     (s .pre .0, (s .pre .1 .0, sought-slice (a .w .now) (a .row .now) (a .key) (x .extent-of .ensures) (k .seek .ensures)))
 
-same-length-2 : tie.Need-same-length-2
-same-length-2 c = search needs
-
 returns-2 : tie.Need-returns-2
 returns-2 c =
     let p = c .before .before in
@@ -90,14 +75,14 @@ pub put-allowed-spec : {M : Type 1} → statement M
 put-allowed-spec =
     tie.close
     (tie.spec
-    extent-of-requires
-    sub-seek
-    part-seek-start
+    (λ c κs. search needs)
+    (λ c. search needs)
+    (λ c. search needs)
     part-seek-end
     seek-requires
     may-put-requires
-    same-length
+    (λ c. search needs)
     returns
     put-at-requires
-    same-length-2
+    (λ c. search needs)
     returns-2)

@@ -9,7 +9,7 @@ use borrow.Author.Needs.{needs}
 use borrow.Author.Tests.{not-true, not-false}
 use Rattle.lists.proofs.Bools.{clash}
 use Rattle.rows.specs.Rows.{limit}
-use Rattle.rows.proofs.Inverse.{Bytes}
+use Rattle.big_endian.specs.BigEndian.{Octets}
 use Rattle.image.specs.Layout.{layoutOf}
 use Rattle.exchange.specs.Exchange.{extentOf, Sought}
 use Rattle.exchange.proofs.Stores.{rowKey}
@@ -21,10 +21,10 @@ abbrev start : tie.After-extent-of → tie.Start
 start x = x .before .before .before
 
 -- bytes are below 256
-bytes : (x : tie.After-extent-of) → Bytes (start x .args .w .now)
+bytes : (x : tie.After-extent-of) → Octets (start x .args .w .now)
 bytes x i = omega (arith, x .before .before .slice-known .given i)
 
-row-bytes : (x : tie.After-extent-of) → Bytes (start x .args .row .now)
+row-bytes : (x : tie.After-extent-of) → Octets (start x .args .row .now)
 row-bytes x i = omega (arith, x .before .shared-slice-known .given i)
 
 sought : (s : tie.Start) → let a = s .args in Sought (a .w .now) (extentOf (a .t) (layoutOf (a .w .now))) (rowKey (a .t) (a .row .now)) (a .p)
@@ -35,12 +35,6 @@ room : (j : tie.Joined1) → let a = start (j .before) .args in a .p .held ≡ f
 room j n =
     let x = j .before in
     ⊎-elim (λ y. room-laid (start x .args .t) (start x .args .w .now) (start x .pre .0 .1) (x .extent-of .ensures) (y .1 .ensures) (y .2 .left)) (λ y. clash (not-false _ (y .left)) n) (j .if1 .came)
-
-extent-of-requires : tie.Need-extent-of-requires
-extent-of-requires c κs = search needs
-
-is-full-requires : tie.Need-is-full-requires
-is-full-requires c κs = search needs
 
 returns : tie.Need-returns
 returns c =
@@ -57,9 +51,6 @@ exchange-requires c κs =
     let x = j .before in
     put-asked _ _ (start x .pre .0 .0) (bytes x) _ (row-bytes x) (start x .pre .0 .2) (sought (start x)) (room j) (start x .pre .0 .1) (x .extent-of .ensures) (c .before .end-of .ensures)
 
-same-length : tie.Need-same-length
-same-length c = search needs
-
 returns-2 : tie.Need-returns-2
 returns-2 c =
     let e = c .before .before in
@@ -71,10 +62,10 @@ pub put-at-spec : {M : Type 1} → statement M
 put-at-spec =
     tie.close
     (tie.spec
-    extent-of-requires
-    is-full-requires
+    (λ c κs. search needs)
+    (λ c κs. search needs)
     returns
     end-of-requires
     exchange-requires
-    same-length
+    (λ c. search needs)
     returns-2)

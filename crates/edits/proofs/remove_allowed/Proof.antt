@@ -4,7 +4,7 @@ use mathlib.Core.Path.{sym, _∙_}
 use native.Mathlib.Omega.{arith}
 use borrow.Author.Needs.{needs}
 use borrow.Author.Tests.{not-true, not-false}
-use Rattle.rows.proofs.Inverse.{Bytes}
+use Rattle.big_endian.specs.BigEndian.{Octets}
 use Rattle.image.specs.Layout.{layoutOf}
 use Rattle.exchange.specs.Exchange.{extentOf, Sought}
 use Rattle.edits.proofs.Stores.{inside-laid, sought-key, remove-storage, remove-forbidden, remove-permitted}
@@ -15,10 +15,10 @@ abbrev start : tie.After-extent-of → tie.Start
 start x = x .before .before .before
 
 -- bytes are below 256
-bytes : (x : tie.After-extent-of) → Bytes (start x .args .w .now)
+bytes : (x : tie.After-extent-of) → Octets (start x .args .w .now)
 bytes x i = omega (arith, x .before .before .slice-known .given i)
 
-key-bytes : (x : tie.After-extent-of) → Bytes (start x .args .key .now)
+key-bytes : (x : tie.After-extent-of) → Octets (start x .args .key .now)
 key-bytes x i = omega (arith, x .before .shared-slice-known .given i)
 
 -- the place found
@@ -27,9 +27,6 @@ sought-laid k = rw (← k .before .before .extent-of .ensures) (k .seek .ensures
 
 sought : (k : tie.After-seek) → let a = start (k .before .before) .args in Sought (a .w .now) (extentOf (a .t) (layoutOf (a .w .now))) (a .key .now) (k .seek .result)
 sought k = let s = start (k .before .before) in sought-key (s .args .t) (s .args .w .now) (s .args .key .now) (s .pre .0 .1) (sought-laid k)
-
-extent-of-requires : tie.Need-extent-of-requires
-extent-of-requires c κs = search needs
 
 seek-requires : tie.Need-seek-requires
 seek-requires c κs = let x = c .before in let s = start x in inside-laid (s .pre .0 .0) (s .pre .0 .1) (s .args .t) (x .extent-of .ensures)
@@ -41,9 +38,6 @@ may-remove-requires c κs =
     let s = start x in
     remove-storage _ _ (s .pre .0 .0) (bytes x) _ (key-bytes x) (s .pre .0 .2) (sought k) (s .pre .1)
 
-same-length : tie.Need-same-length
-same-length c = search needs
-
 returns : tie.Need-returns
 returns c =
     let m = c .before in
@@ -54,9 +48,6 @@ returns c =
 
 remove-at-requires : tie.Need-remove-at-requires
 remove-at-requires c κs = let k = c .before .before .before .before in (start (k .before .before) .pre .0, sought-laid k)
-
-same-length-2 : tie.Need-same-length-2
-same-length-2 c = search needs
 
 returns-2 : tie.Need-returns-2
 returns-2 c =
@@ -72,11 +63,11 @@ pub remove-allowed-spec : {M : Type 1} → statement M
 remove-allowed-spec =
     tie.close
     (tie.spec
-    extent-of-requires
+    (λ c κs. search needs)
     seek-requires
     may-remove-requires
-    same-length
+    (λ c. search needs)
     returns
     remove-at-requires
-    same-length-2
+    (λ c. search needs)
     returns-2)

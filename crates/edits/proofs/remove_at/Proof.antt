@@ -3,7 +3,7 @@
 use native.Mathlib.Omega.{arith}
 use borrow.Author.Needs.{needs}
 use borrow.Author.Tests.{not-true, not-false}
-use Rattle.rows.proofs.Inverse.{Bytes}
+use Rattle.big_endian.specs.BigEndian.{Octets}
 use Rattle.image.specs.Layout.{layoutOf}
 use Rattle.exchange.specs.Exchange.{extentOf, Sought}
 use Rattle.edits.proofs.Stores.{views-laid, sought-key, remove-asked, remove-done, remove-absent}
@@ -11,10 +11,10 @@ use Rattle.edits.proofs.remove_at.Statement.{statement}
 use Rattle.edits.proofs.remove_at.Tie as tie
 
 -- bytes are below 256
-bytes : (x : tie.After-shared-slice-known) → Bytes (x .before .before .args .w .now)
+bytes : (x : tie.After-shared-slice-known) → Octets (x .before .before .args .w .now)
 bytes x i = omega (arith, x .before .slice-known .given i)
 
-key-bytes : (x : tie.After-shared-slice-known) → Bytes (x .before .before .args .key .now)
+key-bytes : (x : tie.After-shared-slice-known) → Octets (x .before .before .args .key .now)
 key-bytes x i = omega (arith, x .shared-slice-known .given i)
 
 sought : (s : tie.Start) → let a = s .args in Sought (a .w .now) (extentOf (a .t) (layoutOf (a .w .now))) (a .key .now) (a .p)
@@ -26,20 +26,8 @@ returns c =
     let s = x .before .before in
     remove-absent _ _ (s .pre .0 .0) (bytes x) _ (key-bytes x) (s .pre .0 .2) (sought s) (not-true _ (c .if1 .taken))
 
-extent-of-requires : tie.Need-extent-of-requires
-extent-of-requires c κs = search needs
-
 end-of-requires : tie.Need-end-of-requires
 end-of-requires c κs = let s = c .before .before .before .before .before .before in views-laid (s .pre .0 .0) (s .pre .0 .1)
-
-sub-exchange : tie.Need-sub-exchange
-sub-exchange c = search needs
-
-part-exchange-start : tie.Need-part-exchange-start
-part-exchange-start c = search needs
-
-part-exchange-end : tie.Need-part-exchange-end
-part-exchange-end c = search needs
 
 exchange-requires : tie.Need-exchange-requires
 exchange-requires c κs =
@@ -48,9 +36,6 @@ exchange-requires c κs =
     let x = e .before .before in
     let s = x .before .before in
     remove-asked _ _ (s .pre .0 .0) (bytes x) _ (key-bytes x) (s .pre .0 .2) (sought s) (not-false _ (e .before .if1 .left)) (s .pre .0 .1) (e .extent-of .ensures) (m .end-of .ensures)
-
-same-length : tie.Need-same-length
-same-length c = search needs
 
 returns-2 : tie.Need-returns-2
 returns-2 c =
@@ -65,11 +50,11 @@ remove-at-spec =
     tie.close
     (tie.spec
     returns
-    extent-of-requires
+    (λ c κs. search needs)
     end-of-requires
-    sub-exchange
-    part-exchange-start
-    part-exchange-end
+    (λ c. search needs)
+    (λ c. search needs)
+    (λ c. search needs)
     exchange-requires
-    same-length
+    (λ c. search needs)
     returns-2)

@@ -76,15 +76,6 @@ loop-holds : tie.Need-loop-holds Inv-loop μ-loop
 loop-holds c = let s = c .before .before in
     (omega arith, refl, way-start (s .args .t) (s .args .n) (s .args .line .now) (s .args .out .now) (s .args .end) (s .pre .1) (s .pre .3))
 
-next-word-requires : tie.Need-next-word-requires Inv-loop μ-loop
-next-word-requires c κs = search needs
-
-enum-known-a : tie.Need-enum-known-a Inv-loop μ-loop
-enum-known-a c = search needs
-
-enum-told : tie.Need-enum-told Inv-loop μ-loop
-enum-told c = search needs
-
 same-length : tie.Need-same-length Inv-loop μ-loop
 same-length c = c .before .before .before .before .loop .inv .1
 
@@ -104,15 +95,6 @@ part-field-start c = found (c .before) .forward
 part-field-end : tie.Need-part-field-end Inv-loop μ-loop
 part-field-end c = found (c .before) .inside
 
-sub-field-2 : tie.Need-sub-field-2 Inv-loop μ-loop
-sub-field-2 c = search needs
-
-part-field-start-2 : tie.Need-part-field-start-2 Inv-loop μ-loop
-part-field-start-2 c = search needs
-
-part-field-end-2 : tie.Need-part-field-end-2 Inv-loop μ-loop
-part-field-end-2 c = search needs
-
 field-requires : tie.Need-field-requires Inv-loop μ-loop
 field-requires c κs = let f = c .before .before .form-at in
     let k = c .before .before .before in
@@ -123,15 +105,6 @@ field-requires c κs = let f = c .before .before .form-at in
       omega (arith, between-most (k .before .a .given .0 .0) (k .before .a .given .0 .1 .0) (s .args .line .now), s .pre .2),
     )
 
-enum-known-m : tie.Need-enum-known-m Inv-loop μ-loop
-enum-known-m c = search needs
-
-enum-told-2 : tie.Need-enum-told-2 Inv-loop μ-loop
-enum-told-2 c = search needs
-
-same-length-2 : tie.Need-same-length-2 Inv-loop μ-loop
-same-length-2 c = search needs
-
 returns-2 : tie.Need-returns-2 Inv-loop μ-loop
 returns-2 c = let h = c .before .before .before .before in
     let k = h .before .before .before .before in
@@ -140,12 +113,6 @@ returns-2 c = let h = c .before .before .before .before in
 add-k : tie.Need-add-k Inv-loop μ-loop
 add-k c = omega (arith, next c .room)
 
-add-i : tie.Need-add-i Inv-loop μ-loop
-add-i c = search needs
-
-loop-less : tie.Need-loop-less Inv-loop μ-loop
-loop-less c = search needs
-
 loop-again : tie.Need-loop-again Inv-loop μ-loop
 loop-again c = let h = c .before .before .before .before .before in
     let i = h .before .before .before .before .before .before .before .before in
@@ -153,14 +120,8 @@ loop-again c = let h = c .before .before .before .before .before in
     let s = same-len-mid (l .k) (length (l .out) - l .k) (l .out) (h .field .last .1 .1 .0) (h .field .kept .1 .1 .0) in
     (omega (arith, i .loop-test .taken), s ∙ l .inv .1, next c)
 
-same-length-3 : tie.Need-same-length-3 Inv-loop μ-loop
-same-length-3 c = search needs
-
 returns-3 : tie.Need-returns-3 Inv-loop μ-loop
 returns-3 c = way-over (ended (c .before)) (c .if1 .taken)
-
-same-length-4 : tie.Need-same-length-4 Inv-loop μ-loop
-same-length-4 c = search needs
 
 returns-4 : tie.Need-returns-4 Inv-loop μ-loop
 returns-4 c = way-end (ended (c .before)) (c .if1 .left)
@@ -172,28 +133,28 @@ fields-spec =
     Inv-loop
     μ-loop
     loop-holds
-    next-word-requires
-    enum-known-a
-    enum-told
+    (λ c κs. search needs)
+    (λ c. search needs)
+    (λ c. search needs)
     same-length
     returns
     form-at-requires
     sub-field
     part-field-start
     part-field-end
-    sub-field-2
-    part-field-start-2
-    part-field-end-2
+    (λ c. search needs)
+    (λ c. search needs)
+    (λ c. search needs)
     field-requires
-    enum-known-m
-    enum-told-2
-    same-length-2
+    (λ c. search needs)
+    (λ c. search needs)
+    (λ c. search needs)
     returns-2
     add-k
-    add-i
-    loop-less
+    (λ c. search needs)
+    (λ c. search needs)
     loop-again
-    same-length-3
+    (λ c. search needs)
     returns-3
-    same-length-4
+    (λ c. search needs)
     returns-4)

@@ -8,15 +8,9 @@ use Rattle.entry.proofs.Entering.{key-first, key-within}
 use Rattle.entry.proofs.key.Statement.{statement}
 use Rattle.entry.proofs.key.Tie as tie
 
-key-len-requires : tie.Need-key-len-requires
-key-len-requires c κs = search needs
-
 fields-requires : tie.Need-fields-requires
 fields-requires c κs = let s = c .before .before .before .before in
     (omega (arith, key-within (s .args .t), c .before .key-len .ensures), s .pre .0, s .pre .1, s .pre .2)
-
-same-length : tie.Need-same-length
-same-length c = search needs
 
 returns : tie.Need-returns
 returns c = let s = c .before .before .before .before .before .before .before in
@@ -25,4 +19,4 @@ returns c = let s = c .before .before .before .before .before .before .before in
     rw e at (c .before .before .fields .ensures)
 
 pub key-spec : {M : Type 1} → statement M
-key-spec = tie.close (tie.spec key-len-requires fields-requires same-length returns)
+key-spec = tie.close (tie.spec (λ c κs. search needs) fields-requires (λ c. search needs) returns)

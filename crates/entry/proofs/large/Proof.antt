@@ -5,7 +5,7 @@ use native.Mathlib.Omega.{arith}
 use borrow.Author.Needs.{needs}
 use Rattle.words.proofs.Words.{number-is, number-bad}
 use Rattle.words.specs.Words.{decimal}
-use Rattle.rows.specs.Fields.{word}
+use Rattle.big_endian.specs.BigEndian.{quad}
 use Rattle.entry.specs.Reading.{ranged}
 use Rattle.entry.proofs.Saying.{unnumbered, numbered, number-below}
 use Rattle.entry.proofs.large.Statement.{statement}
@@ -18,40 +18,25 @@ read : (c : tie.After-known-told) → let s = start c .args in
     ranged (s .lo) (s .hi) (decimal (s .word .now)) ≡ some (c .before .x .given .0 .0)
 read c = number-is _ (c .before .x .given .1) (c .before .before .before .number .ensures)
 
-number-requires : tie.Need-number-requires
-number-requires c κs = search needs
-
-enum-known-x : tie.Need-enum-known-x
-enum-known-x c = search needs
-
-enum-told : tie.Need-enum-told
-enum-told c = search needs
-
 returns : tie.Need-returns
 returns c = let s = c .before .before .before .before .before .args in
-    unnumbered word (s .lo) (s .hi) (s .word .now) (s .out .now) (number-bad (c .enum-told .given .1) (c .before .before .number .ensures))
-
-put-word-requires : tie.Need-put-word-requires
-put-word-requires c κs = search needs
-
-same-length : tie.Need-same-length
-same-length c = search needs
+    unnumbered quad (s .lo) (s .hi) (s .word .now) (s .out .now) (number-bad (c .enum-told .given .1) (c .before .before .number .ensures))
 
 returns-2 : tie.Need-returns-2
 returns-2 c = let k = c .before .before .before .before in
     let w = c .before .before .put-word in
     let s = start k .args in
-    numbered word (s .lo) (s .hi) (s .word .now) (w .last .1 .0) _ (read k)
-    (number-below word (s .lo) (s .hi) (s .word .now) (s .out .now) _ (read k)) 4 (omega (arith, w .kept .1 .0)) (w .ensures)
+    numbered quad (s .lo) (s .hi) (s .word .now) (w .last .1 .0) _ (read k)
+    (number-below quad (s .lo) (s .hi) (s .word .now) (s .out .now) _ (read k)) 4 (omega (arith, w .kept .1 .0)) (w .ensures)
 
 pub large-spec : {M : Type 1} → statement M
 large-spec =
     tie.close
     (tie.spec
-    number-requires
-    enum-known-x
-    enum-told
+    (λ c κs. search needs)
+    (λ c. search needs)
+    (λ c. search needs)
     returns
-    put-word-requires
-    same-length
+    (λ c κs. search needs)
+    (λ c. search needs)
     returns-2)

@@ -7,14 +7,8 @@ use Rattle.entry.proofs.next_word.Tie as tie
 returns : tie.Need-returns
 returns c = at-end _ _ (c .if1 .taken)
 
-add-at : tie.Need-add-at
-add-at c = search needs
-
-word-end-requires : tie.Need-word-end-requires
-word-end-requires c κs = search needs
-
 returns-2 : tie.Need-returns-2
 returns-2 c = at-word _ _ (c .before .if1 .left) _ (c .word-end .ensures .0)
 
 pub next-word-spec : {M : Type 1} → statement M
-next-word-spec = tie.close (tie.spec returns add-at word-end-requires returns-2)
+next-word-spec = tie.close (tie.spec returns (λ c. search needs) (λ c κs. search needs) returns-2)

@@ -15,15 +15,6 @@ start c = c .before .before .before .before .before
 said : (c : tie.After-known-told) → decimal (c .before .before .before .before .before .args .word .now) ≡ some (c .before .said .given .0 .0)
 said c = number-is _ (c .before .said .given .1) (c .before .before .before .decimal .ensures)
 
-decimal-requires : tie.Need-decimal-requires
-decimal-requires c κs = search needs
-
-enum-known-said : tie.Need-enum-known-said
-enum-known-said c = search needs
-
-enum-told : tie.Need-enum-told
-enum-told c = search needs
-
 returns : tie.Need-returns
 returns c = let s = c .before .before .before .before .args in
     let d = number-bad (c .enum-told .given .1) (c .before .before .decimal .ensures) in
@@ -44,4 +35,4 @@ returns-4 c = let s = start (c .before .before) .args in
 pub number-spec : {M : Type 1} → statement M
 number-spec =
     tie.close
-    (tie.spec decimal-requires enum-known-said enum-told returns returns-2 returns-3 returns-4)
+    (tie.spec (λ c κs. search needs) (λ c. search needs) (λ c. search needs) returns returns-2 returns-3 returns-4)

@@ -7,15 +7,6 @@ use Rattle.rows.specs.Rows.{rowFields}
 use Rattle.entry.proofs.row.Statement.{statement}
 use Rattle.entry.proofs.row.Tie as tie
 
-row-len-requires : tie.Need-row-len-requires
-row-len-requires c κs = search needs
-
-fields-requires : tie.Need-fields-requires
-fields-requires c κs = search needs
-
-same-length : tie.Need-same-length
-same-length c = search needs
-
 returns : tie.Need-returns
 returns c = let s = c .before .before .before .before .before .before .before in
     let e : take (c .before .before .before .before .row-len .result) (rowFields (s .args .t)) ≡ rowFields (s .args .t) =
@@ -23,4 +14,4 @@ returns c = let s = c .before .before .before .before .before .before .before in
     rw e at (c .before .before .fields .ensures)
 
 pub row-spec : {M : Type 1} → statement M
-row-spec = tie.close (tie.spec row-len-requires fields-requires same-length returns)
+row-spec = tie.close (tie.spec (λ c κs. search needs) (λ c κs. search needs) (λ c. search needs) returns)

@@ -7,7 +7,7 @@ use lib.ListN.{length-set}
 use borrow.Author.Needs.{needs}
 use Rattle.words.proofs.Words.{number-is, number-bad}
 use Rattle.words.specs.Words.{decimal}
-use Rattle.rows.specs.Fields.{octet}
+use Rattle.big_endian.specs.BigEndian.{octet}
 use Rattle.entry.specs.Reading.{ranged}
 use Rattle.entry.proofs.Saying.{unnumbered, numbered, number-most}
 use Rattle.entry.proofs.Placing.{put-one}
@@ -24,27 +24,12 @@ read c = number-is _ (c .before .x .given .1) (c .before .before .before .number
 most : (c : tie.After-known-told) → c .before .x .given .0 .0 ≤ start c .args .hi
 most c = let s = start c .args in number-most octet (s .lo) (s .hi) (s .word .now) (s .out .now) _ (read c)
 
-number-requires : tie.Need-number-requires
-number-requires c κs = search needs
-
-enum-known-x : tie.Need-enum-known-x
-enum-known-x c = search needs
-
-enum-told : tie.Need-enum-told
-enum-told c = search needs
-
 returns : tie.Need-returns
 returns c = let s = c .before .before .before .before .before .args in
     unnumbered octet (s .lo) (s .hi) (s .word .now) (s .out .now) (number-bad (c .enum-told .given .1) (c .before .before .number .ensures))
 
 cast-out : tie.Need-cast-out
 cast-out c = omega (arith, most c)
-
-slice-write-out : tie.Need-slice-write-out
-slice-write-out c = search needs
-
-same-length : tie.Need-same-length
-same-length c = search needs
 
 returns-2 : tie.Need-returns-2
 returns-2 c = let s = start c .args in
@@ -56,11 +41,11 @@ pub small-spec : {M : Type 1} → statement M
 small-spec =
     tie.close
     (tie.spec
-    number-requires
-    enum-known-x
-    enum-told
+    (λ c κs. search needs)
+    (λ c. search needs)
+    (λ c. search needs)
     returns
     cast-out
-    slice-write-out
-    same-length
+    (λ c. search needs)
+    (λ c. search needs)
     returns-2)

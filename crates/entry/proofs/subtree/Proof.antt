@@ -8,7 +8,8 @@ use lib.ListN.{length-set, length, take}
 use borrow.Rule.Slice.PartMut.{same-len-mid}
 use borrow.Author.Needs.{needs}
 use Rattle.words.specs.Words.{dotted}
-use Rattle.rows.specs.Fields.{bytesOf, word, sequence}
+use Rattle.big_endian.specs.BigEndian.{bytesOf, quad}
+use Rattle.rows.specs.Fields.{sequence}
 use Rattle.entry.specs.Entries.{said}
 use Rattle.entry.proofs.Placing.{back, headed}
 use Rattle.entry.proofs.Saying.{Filling, filled-upto, filled-not, unsaid, count-low, count-high, counted}
@@ -23,71 +24,23 @@ read : (c : tie.After-known-told) → let h = c .before .before .before .before 
     Filling (c .before .n .given .0 .0) (h .dotted .last .1 .0) (dotted (start c .args .word .now))
 read c = filled-upto (c .before .n .given .1) (c .before .before .before .before .dotted .ensures)
 
-slice-aggregate-dotted : tie.Need-slice-aggregate-dotted
-slice-aggregate-dotted c = search needs
-
-dotted-requires : tie.Need-dotted-requires
-dotted-requires c κs = search needs
-
-enum-known-n : tie.Need-enum-known-n
-enum-known-n c = search needs
-
-enum-told : tie.Need-enum-told
-enum-told c = search needs
-
 returns : tie.Need-returns
 unfolding said
 returns c = let k = c .before .before .before in
     let s = k .before .before .before .before .args in
-    unsaid (sequence word (s .lo) (s .hi)) (s .word .now) (s .out .now) (filled-not (c .enum-told .given .1) (k .dotted .ensures))
+    unsaid (sequence quad (s .lo) (s .hi)) (s .word .now) (s .out .now) (filled-not (c .enum-told .given .1) (k .dotted .ensures))
 
 returns-2 : tie.Need-returns-2
 unfolding said
 returns-2 c = let s = start (c .before) .args in
     let f = read (c .before) in
-    count-low word (s .lo) (s .hi) (s .word .now) (s .out .now) _ (f .is) (omega (arith, f .size, c .if1 .taken))
+    count-low quad (s .lo) (s .hi) (s .word .now) (s .out .now) _ (f .is) (omega (arith, f .size, c .if1 .taken))
 
 returns-3 : tie.Need-returns-3
 unfolding said
 returns-3 c = let s = start (c .before .before) .args in
     let f = read (c .before .before) in
-    count-high word (s .lo) (s .hi) (s .word .now) (s .out .now) _ (f .is) (omega (arith, f .size, c .if2 .taken))
-
-sub-put-words : tie.Need-sub-put-words
-sub-put-words c = search needs
-
-part-put-words-start : tie.Need-part-put-words-start
-part-put-words-start c = search needs
-
-part-put-words-end : tie.Need-part-put-words-end
-part-put-words-end c = search needs
-
-sub-put-words-2 : tie.Need-sub-put-words-2
-sub-put-words-2 c = search needs
-
-part-put-words-start-2 : tie.Need-part-put-words-start-2
-part-put-words-start-2 c = search needs
-
-part-put-words-end-2 : tie.Need-part-put-words-end-2
-part-put-words-end-2 c = search needs
-
-put-words-requires : tie.Need-put-words-requires
-put-words-requires c κs = search needs
-
-cast-out : tie.Need-cast-out
-cast-out c = search needs
-
-slice-write-out : tie.Need-slice-write-out
-slice-write-out c = search needs
-
-mul-t10 : tie.Need-mul-t10
-mul-t10 c = search needs
-
-add-t18 : tie.Need-add-t18
-add-t18 c = search needs
-
-same-length : tie.Need-same-length
-same-length c = search needs
+    count-high quad (s .lo) (s .hi) (s .word .now) (s .out .now) _ (f .is) (omega (arith, f .size, c .if2 .taken))
 
 returns-4 : tie.Need-returns-4
 unfolding said
@@ -101,9 +54,9 @@ returns-4 c = let e = c .before .before .before .before .before .before in
     let x = take n (k .before .before .before .before .dotted .last .1 .0) in
     let j = length (s .out .now) - 1 in
     let l = same-len-mid 1 j (s .out .now) b (w .kept .1 .0) in
-    let q : take (4 * n) b ≡ bytesOf word x = rw (sub-zero n, f .size) at (w .ensures) in
+    let q : take (4 * n) b ≡ bytesOf quad x = rw (sub-zero n, f .size) at (w .ensures) in
     let m : 4 * n ≤ length b = omega (arith, w .kept .1 .0, start k .pre .0, e .if2 .left) in
-    counted word (s .lo) (s .hi) (s .word .now) _ x (f .is) (omega (arith, f .size, e .before .if1 .left))
+    counted quad (s .lo) (s .hi) (s .word .now) _ x (f .is) (omega (arith, f .size, e .before .if1 .left))
     (omega (arith, f .size, e .if2 .left)) (4 * n + 1)
     (omega (arith, length-set (back 1 j b (s .out .now)) 0 n, l, start k .pre .0, e .if2 .left))
     (headed n (4 * n) j b (s .out .now) (omega (arith, start k .pre .0)) m ∙ rw (f .size, q))
@@ -112,23 +65,23 @@ pub subtree-spec : {M : Type 1} → statement M
 subtree-spec =
     tie.close
     (tie.spec
-    slice-aggregate-dotted
-    dotted-requires
-    enum-known-n
-    enum-told
+    (λ c. search needs)
+    (λ c κs. search needs)
+    (λ c. search needs)
+    (λ c. search needs)
     returns
     returns-2
     returns-3
-    sub-put-words
-    part-put-words-start
-    part-put-words-end
-    sub-put-words-2
-    part-put-words-start-2
-    part-put-words-end-2
-    put-words-requires
-    cast-out
-    slice-write-out
-    mul-t10
-    add-t18
-    same-length
+    (λ c. search needs)
+    (λ c. search needs)
+    (λ c. search needs)
+    (λ c. search needs)
+    (λ c. search needs)
+    (λ c. search needs)
+    (λ c κs. search needs)
+    (λ c. search needs)
+    (λ c. search needs)
+    (λ c. search needs)
+    (λ c. search needs)
+    (λ c. search needs)
     returns-4)

@@ -20,41 +20,17 @@ no-access : (c : tie.Else3) → let e = c .before .before .before in
     same (tableWord Access) (e .before .before .before .before .before .before .before .args .word .now) ≡ false
 no-access c = sym (c .before .are-same3 .ensures) ∙ c .if3 .left
 
-slice-aggregate-are-same : tie.Need-slice-aggregate-are-same
-slice-aggregate-are-same c = search needs
-
-are-same-requires : tie.Need-are-same-requires
-are-same-requires c κs = search needs
-
 returns : tie.Need-returns
 unfolding tableNamed
 returns c = rw (sym (c .before .are-same .ensures) ∙ c .if1 .taken)
-
-slice-aggregate-are-same-2 : tie.Need-slice-aggregate-are-same-2
-slice-aggregate-are-same-2 c = search needs
-
-are-same-requires-2 : tie.Need-are-same-requires-2
-are-same-requires-2 c κs = search needs
 
 returns-2 : tie.Need-returns-2
 unfolding tableNamed
 returns-2 c = rw (no-context (c .before .before .before), sym (c .before .are-same2 .ensures) ∙ c .if2 .taken)
 
-slice-aggregate-are-same-3 : tie.Need-slice-aggregate-are-same-3
-slice-aggregate-are-same-3 c = search needs
-
-are-same-requires-3 : tie.Need-are-same-requires-3
-are-same-requires-3 c κs = search needs
-
 returns-3 : tie.Need-returns-3
 unfolding tableNamed
 returns-3 c = rw (no-context (c .before .before .before .before .before .before), no-mapping (c .before .before .before), sym (c .before .are-same3 .ensures) ∙ c .if3 .taken)
-
-slice-aggregate-are-same-4 : tie.Need-slice-aggregate-are-same-4
-slice-aggregate-are-same-4 c = search needs
-
-are-same-requires-4 : tie.Need-are-same-requires-4
-are-same-requires-4 c κs = search needs
 
 returns-4 : tie.Need-returns-4
 unfolding tableNamed
@@ -72,16 +48,16 @@ pub table-named-spec : {M : Type 1} → statement M
 table-named-spec =
     tie.close
     (tie.spec
-    slice-aggregate-are-same
-    are-same-requires
+    (λ c. search needs)
+    (λ c κs. search needs)
     returns
-    slice-aggregate-are-same-2
-    are-same-requires-2
+    (λ c. search needs)
+    (λ c κs. search needs)
     returns-2
-    slice-aggregate-are-same-3
-    are-same-requires-3
+    (λ c. search needs)
+    (λ c κs. search needs)
     returns-3
-    slice-aggregate-are-same-4
-    are-same-requires-4
+    (λ c. search needs)
+    (λ c κs. search needs)
     returns-4
     returns-5)

@@ -8,26 +8,11 @@ use borrow.Author.Needs.{needs}
 use Rattle.exchange.proofs.against.Statement.{statement}
 use Rattle.exchange.proofs.against.Tie as tie
 
-compare-requires : tie.Need-compare-requires
-compare-requires c κs = search needs
-
 returns : tie.Need-returns
 returns c =
     let s = c .before .before .before .before .args in
     let h : length (s .row .now) ≤ length (s .key .now) = omega arith in
     rw (take-all (length (s .key .now)) (s .row .now) h) (c .compare .ensures)
-
-sub-compare : tie.Need-sub-compare
-sub-compare c = search needs
-
-part-compare-start : tie.Need-part-compare-start
-part-compare-start c = search needs
-
-part-compare-end : tie.Need-part-compare-end
-part-compare-end c = search needs
-
-compare-requires-2 : tie.Need-compare-requires-2
-compare-requires-2 c κs = search needs
 
 returns-2 : tie.Need-returns-2
 returns-2 c =
@@ -39,10 +24,10 @@ pub against-spec : {M : Type 1} → statement M
 against-spec =
     tie.close
     (tie.spec
-    compare-requires
+    (λ c κs. search needs)
     returns
-    sub-compare
-    part-compare-start
-    part-compare-end
-    compare-requires-2
+    (λ c. search needs)
+    (λ c. search needs)
+    (λ c. search needs)
+    (λ c κs. search needs)
     returns-2)

@@ -42,38 +42,17 @@ most c =
     let s = at2 c .before .before .before .args in
     (omega (arith, c .before .one-if .ensures, number-most (s .p .held)), omega (arith, c .one-if2 .ensures, number-most (ltb 0 (length (s .row .now)))))
 
-sub-gone : tie.Need-sub-gone
-sub-gone c = search needs
-
 mul-place : tie.Need-mul-place
 mul-place c = let h = there (c .before) in omega (arith, c .before .before .before .before .fits .end)
 
 add-place : tie.Need-add-place
 add-place c = let h = there (c .before .before) in omega (arith, c .before .before .before .before .before .fits .end)
 
-one-if-requires : tie.Need-one-if-requires
-one-if-requires c κs = search needs
-
-one-if-requires-2 : tie.Need-one-if-requires-2
-one-if-requires-2 c κs = search needs
-
-cast-t18 : tie.Need-cast-t18
-cast-t18 c = search needs
-
-cast-w : tie.Need-cast-w
-cast-w c = search needs
-
 mul-used : tie.Need-mul-used
 mul-used c = omega (arith, most c)
 
 mul-splice-two : tie.Need-mul-splice-two
 mul-splice-two c = omega (arith, most (c .before))
-
-sub-splice-two : tie.Need-sub-splice-two
-sub-splice-two c = search needs
-
-part-splice-two-start : tie.Need-part-splice-two-start
-part-splice-two-start c = search needs
 
 part-splice-two-end : tie.Need-part-splice-two-end
 part-splice-two-end c = omega (arith, most (c .before .before))
@@ -88,14 +67,8 @@ splice-two-requires c κs =
     let n = length-take (2 * l .one-if2 .result - 0) (length (a .row .now) / 256 ∷ length (a .row .now) % 256 ∷ []) in
     (omega arith, omega arith, omega arith, omega (arith, most l))
 
-count-at-requires : tie.Need-count-at-requires
-count-at-requires c κs = search needs
-
 add-w : tie.Need-add-w
 add-w c = omega (arith, few (at4 (at3 c)), most (at4 (at3 c)))
-
-sub-w : tie.Need-sub-w
-sub-w c = search needs
 
 cast-w-2 : tie.Need-cast-w-2
 cast-w-2 c = omega (arith, few (at4 (at3 c)), most (at4 (at3 c)))
@@ -105,9 +78,6 @@ slice-write-w c =
     let start = at2 (at4 (at3 c)) .before .before .before in
     let i = start .pre .0 .0 in
     omega (arith, c .before .count-at .ensures, count-below (start .args .t), at3 c .splice-two .kept .0, i .end-is, i .end-in)
-
-same-length : tie.Need-same-length
-same-length c = search needs
 
 returns : tie.Need-returns
 returns c =
@@ -120,23 +90,23 @@ pub exchange-spec : {M : Type 1} → statement M
 exchange-spec =
     tie.close
     (tie.spec
-    sub-gone
+    (λ c. search needs)
     mul-place
     add-place
-    one-if-requires
-    one-if-requires-2
-    cast-t18
-    cast-w
+    (λ c κs. search needs)
+    (λ c κs. search needs)
+    (λ c. search needs)
+    (λ c. search needs)
     mul-used
     mul-splice-two
-    sub-splice-two
-    part-splice-two-start
+    (λ c. search needs)
+    (λ c. search needs)
     part-splice-two-end
     splice-two-requires
-    count-at-requires
+    (λ c κs. search needs)
     add-w
-    sub-w
+    (λ c. search needs)
     cast-w-2
     slice-write-w
-    same-length
+    (λ c. search needs)
     returns)

@@ -44,43 +44,16 @@ pair-at-requires c κs = walk-length (c .before .loop .inv .0) (c .before .befor
 add-e : tie.Need-add-e Inv-loop μ-loop
 add-e c = omega (arith, row-in c)
 
-sub-against : tie.Need-sub-against Inv-loop μ-loop
-sub-against c = search needs
-
-part-against-start : tie.Need-part-against-start Inv-loop μ-loop
-part-against-start c = search needs
-
 part-against-end : tie.Need-part-against-end Inv-loop μ-loop
 part-against-end c = row-in c
-
-against-requires : tie.Need-against-requires Inv-loop μ-loop
-against-requires c κs = search needs
-
-enum-told : tie.Need-enum-told Inv-loop μ-loop
-enum-told c = search needs
-
-add-g : tie.Need-add-g Inv-loop μ-loop
-add-g c = search needs
-
-add-i : tie.Need-add-i Inv-loop μ-loop
-add-i c = search needs
-
-loop-less : tie.Need-loop-less Inv-loop μ-loop
-loop-less c = search needs
 
 loop-again : tie.Need-loop-again Inv-loop μ-loop
 loop-again c =
     let n = turn (c .before .before) in
     (walk-next (n .walk) _ (n .more) (n .length-is), seeks-next n (c .enum-told .given .1))
 
-enum-told-2 : tie.Need-enum-told-2 Inv-loop μ-loop
-enum-told-2 c = search needs
-
 returns : tie.Need-returns Inv-loop μ-loop
 returns c = seeks-equal (turn (c .before .before)) (c .enum-told2 .given .1)
-
-enum-told-3 : tie.Need-enum-told-3 Inv-loop μ-loop
-enum-told-3 c = search needs
 
 returns-2 : tie.Need-returns-2 Inv-loop μ-loop
 returns-2 c = seeks-above (turn (c .before .before)) (c .enum-told3 .given .1)
@@ -97,17 +70,17 @@ seek-spec =
     loop-holds
     pair-at-requires
     add-e
-    sub-against
-    part-against-start
+    (λ c. search needs)
+    (λ c. search needs)
     part-against-end
-    against-requires
-    enum-told
-    add-g
-    add-i
-    loop-less
+    (λ c κs. search needs)
+    (λ c. search needs)
+    (λ c. search needs)
+    (λ c. search needs)
+    (λ c. search needs)
     loop-again
-    enum-told-2
+    (λ c. search needs)
     returns
-    enum-told-3
+    (λ c. search needs)
     returns-2
     returns-3)

@@ -25,15 +25,6 @@ add-e c =
     let l = c .before .before in
     omega (arith, walk-row (l .loop .inv) _ (c .before .loop-test .taken) (c .pair-at .ensures .0) (l .before .before .pre))
 
-add-g : tie.Need-add-g Inv-loop μ-loop
-add-g c = search needs
-
-add-i : tie.Need-add-i Inv-loop μ-loop
-add-i c = search needs
-
-loop-less : tie.Need-loop-less Inv-loop μ-loop
-loop-less c = search needs
-
 loop-again : tie.Need-loop-again Inv-loop μ-loop
 loop-again c = walk-next (c .before .before .loop .inv) _ (c .before .loop-test .taken) (c .pair-at .ensures .0)
 
@@ -42,4 +33,4 @@ returns c = walk-end (c .before .loop .inv) (c .loop-test .left)
 
 pub end-of-spec : {M : Type 1} → statement M
 end-of-spec =
-    tie.close (tie.spec Inv-loop μ-loop loop-holds pair-at-requires add-e add-g add-i loop-less loop-again returns)
+    tie.close (tie.spec Inv-loop μ-loop loop-holds pair-at-requires add-e (λ c. search needs) (λ c. search needs) (λ c. search needs) loop-again returns)

@@ -6,17 +6,8 @@ use borrow.Author.Needs.{needs}
 use Rattle.image.proofs.judge_row.Statement.{statement}
 use Rattle.image.proofs.judge_row.Tie as tie
 
-key-end-requires : tie.Need-key-end-requires
-key-end-requires c κs = search needs
-
-judge-requires : tie.Need-judge-requires
-judge-requires c κs = search needs
-
-returns : tie.Need-returns
-returns c = search needs
-
 returns-2 : tie.Need-returns-2
 returns-2 c = ⊎-elim (λ z. absurd (c .if1 .left z)) (λ e. sym e) (c .before .key-end .ensures)
 
 pub judge-row-spec : {M : Type 1} → statement M
-judge-row-spec = tie.close (tie.spec key-end-requires judge-requires returns returns-2)
+judge-row-spec = tie.close (tie.spec (λ c κs. search needs) (λ c κs. search needs) (λ c. search needs) returns-2)

@@ -56,42 +56,12 @@ fourth c =
     let g = goes d (c .before .before .s3 .given .1) in
     record { passed = (d .passed .0, d .passed .1, g .0); answer = rw (g .1) (c .judge-table4 .ensures) }
 
-add-t17 : tie.Need-add-t17
-add-t17 c = search needs
-
-add-t18 : tie.Need-add-t18
-add-t18 c = search needs
-
-add-t19 : tie.Need-add-t19
-add-t19 c = search needs
-
-mul-t20 : tie.Need-mul-t20
-mul-t20 c = search needs
-
-add-t21 : tie.Need-add-t21
-add-t21 c = search needs
-
 judge-table-requires : tie.Need-judge-table-requires
 unfolding laidOut
 judge-table-requires c κs = within c .contexts-in
 
-enum-known-s : tie.Need-enum-known-s
-enum-known-s c = search needs
-
-enum-told : tie.Need-enum-told
-enum-told c = search needs
-
-stopped-requires : tie.Need-stopped-requires
-stopped-requires c κs = search needs
-
 returns : tie.Need-returns
 returns c = c .stopped .ensures ∙ stops (first (c .before .before .before)) (c .before .enum-told .given .1)
-
-mul-t17 : tie.Need-mul-t17
-mul-t17 c = search needs
-
-add-t18-2 : tie.Need-add-t18-2
-add-t18-2 c = search needs
 
 judge-table-requires-2 : tie.Need-judge-table-requires-2
 unfolding laidOut
@@ -99,29 +69,8 @@ judge-table-requires-2 c κs =
     let d = first (c .before .before .before) in
     rw (goes d (c .before .s .given .1) .1) at (within (c .before .before .before .before) .mappings-in)
 
-enum-known-s-2 : tie.Need-enum-known-s-2
-enum-known-s-2 c = search needs
-
-enum-told-2 : tie.Need-enum-told-2
-enum-told-2 c = search needs
-
-stopped-requires-2 : tie.Need-stopped-requires-2
-stopped-requires-2 c κs = search needs
-
 returns-2 : tie.Need-returns-2
 returns-2 c = c .stopped2 .ensures ∙ stops (second (c .before .before .before)) (c .before .enum-told2 .given .1)
-
-mul-t18 : tie.Need-mul-t18
-mul-t18 c = search needs
-
-add-t21-2 : tie.Need-add-t21-2
-add-t21-2 c = search needs
-
-mul-t17-2 : tie.Need-mul-t17-2
-mul-t17-2 c = search needs
-
-add-t20 : tie.Need-add-t20
-add-t20 c = search needs
 
 judge-table-requires-3 : tie.Need-judge-table-requires-3
 unfolding laidOut
@@ -129,50 +78,14 @@ judge-table-requires-3 c κs =
     let d = second (c .before .before .before) in
     rw (goes d (c .before .s2 .given .1) .1) at (within (at2 (c .before .before .before)) .accesses-in)
 
-enum-known-s-3 : tie.Need-enum-known-s-3
-enum-known-s-3 c = search needs
-
-enum-told-3 : tie.Need-enum-told-3
-enum-told-3 c = search needs
-
-stopped-requires-3 : tie.Need-stopped-requires-3
-stopped-requires-3 c κs = search needs
-
 returns-3 : tie.Need-returns-3
 returns-3 c = c .stopped3 .ensures ∙ stops (third (c .before .before .before)) (c .before .enum-told3 .given .1)
-
-mul-t20-2 : tie.Need-mul-t20-2
-mul-t20-2 c = search needs
-
-add-t19-2 : tie.Need-add-t19-2
-add-t19-2 c = search needs
-
-mul-t17-3 : tie.Need-mul-t17-3
-mul-t17-3 c = search needs
-
-add-t21-3 : tie.Need-add-t21-3
-add-t21-3 c = search needs
-
-mul-t18-2 : tie.Need-mul-t18-2
-mul-t18-2 c = search needs
-
-add-t23 : tie.Need-add-t23
-add-t23 c = search needs
 
 judge-table-requires-4 : tie.Need-judge-table-requires-4
 unfolding laidOut
 judge-table-requires-4 c κs =
     let d = third (c .before .before .before) in
     rw (goes d (c .before .s3 .given .1) .1) at (within (at3 (c .before .before .before)) .views-in)
-
-enum-told-4 : tie.Need-enum-told-4
-enum-told-4 c = search needs
-
-enum-told-5 : tie.Need-enum-told-5
-enum-told-5 c = search needs
-
-stopped-requires-4 : tie.Need-stopped-requires-4
-stopped-requires-4 c κs = search needs
 
 returns-4 : tie.Need-returns-4
 returns-4 c = c .stopped4 .ensures ∙ stops (fourth (c .before .before .before)) (c .before .enum-told5 .given .1)
@@ -191,41 +104,41 @@ pub judge-rows-spec : {M : Type 1} → statement M
 judge-rows-spec =
     tie.close
     (tie.spec
-    add-t17
-    add-t18
-    add-t19
-    mul-t20
-    add-t21
+    (λ c. search needs)
+    (λ c. search needs)
+    (λ c. search needs)
+    (λ c. search needs)
+    (λ c. search needs)
     judge-table-requires
-    enum-known-s
-    enum-told
-    stopped-requires
+    (λ c. search needs)
+    (λ c. search needs)
+    (λ c κs. search needs)
     returns
-    mul-t17
-    add-t18-2
+    (λ c. search needs)
+    (λ c. search needs)
     judge-table-requires-2
-    enum-known-s-2
-    enum-told-2
-    stopped-requires-2
+    (λ c. search needs)
+    (λ c. search needs)
+    (λ c κs. search needs)
     returns-2
-    mul-t18
-    add-t21-2
-    mul-t17-2
-    add-t20
+    (λ c. search needs)
+    (λ c. search needs)
+    (λ c. search needs)
+    (λ c. search needs)
     judge-table-requires-3
-    enum-known-s-3
-    enum-told-3
-    stopped-requires-3
+    (λ c. search needs)
+    (λ c. search needs)
+    (λ c κs. search needs)
     returns-3
-    mul-t20-2
-    add-t19-2
-    mul-t17-3
-    add-t21-3
-    mul-t18-2
-    add-t23
+    (λ c. search needs)
+    (λ c. search needs)
+    (λ c. search needs)
+    (λ c. search needs)
+    (λ c. search needs)
+    (λ c. search needs)
     judge-table-requires-4
-    enum-told-4
-    enum-told-5
-    stopped-requires-4
+    (λ c. search needs)
+    (λ c. search needs)
+    (λ c κs. search needs)
     returns-4
     returns-5)

@@ -56,23 +56,8 @@ pair-at-requires c κs = walk-length (c .before .loop .inv .0) (c .before .befor
 add-e : tie.Need-add-e Inv-loop μ-loop
 add-e c = omega (arith, row-in c)
 
-sub-judge-row : tie.Need-sub-judge-row Inv-loop μ-loop
-sub-judge-row c = search needs
-
-part-judge-row-start : tie.Need-part-judge-row-start Inv-loop μ-loop
-part-judge-row-start c = search needs
-
 part-judge-row-end : tie.Need-part-judge-row-end Inv-loop μ-loop
 part-judge-row-end c = row-in c
-
-judge-row-requires : tie.Need-judge-row-requires Inv-loop μ-loop
-judge-row-requires c κs = search needs
-
-enum-known-s : tie.Need-enum-known-s Inv-loop μ-loop
-enum-known-s c = search needs
-
-enum-told : tie.Need-enum-told Inv-loop μ-loop
-enum-told c = search needs
 
 returns : tie.Need-returns Inv-loop μ-loop
 returns c = judged-bad (turn (c .before .before)) (c .enum-told .given .1)
@@ -80,40 +65,13 @@ returns c = judged-bad (turn (c .before .before)) (c .enum-told .given .1)
 add-end : tie.Need-add-end Inv-loop μ-loop
 add-end c = omega (arith, key-in c, row-in (c .before .before .before .before .before))
 
-sub-ascends : tie.Need-sub-ascends Inv-loop μ-loop
-sub-ascends c = search needs
-
-part-ascends-start : tie.Need-part-ascends-start Inv-loop μ-loop
-part-ascends-start c = search needs
-
-part-ascends-end : tie.Need-part-ascends-end Inv-loop μ-loop
-part-ascends-end c = search needs
-
-sub-ascends-2 : tie.Need-sub-ascends-2 Inv-loop μ-loop
-sub-ascends-2 c = search needs
-
-part-ascends-start-2 : tie.Need-part-ascends-start-2 Inv-loop μ-loop
-part-ascends-start-2 c = search needs
-
 part-ascends-end-2 : tie.Need-part-ascends-end-2 Inv-loop μ-loop
 part-ascends-end-2 c = omega (arith, key-in (c .before .before), row-in (c .before .before .before .before .before .before .before))
-
-ascends-requires : tie.Need-ascends-requires Inv-loop μ-loop
-ascends-requires c κs = search needs
 
 returns-2 : tie.Need-returns-2 Inv-loop μ-loop
 returns-2 c =
     let k = c .before .before .before .before .before in
     judged-low (turn (k .before .before .before)) (k .before .s .given .1) (sym (c .before .ascends .ensures) ∙ not-true _ (c .if2 .taken))
-
-add-g : tie.Need-add-g Inv-loop μ-loop
-add-g c = search needs
-
-add-i : tie.Need-add-i Inv-loop μ-loop
-add-i c = search needs
-
-loop-less : tie.Need-loop-less Inv-loop μ-loop
-loop-less c = search needs
 
 loop-again : tie.Need-loop-again Inv-loop μ-loop
 loop-again c =
@@ -142,24 +100,24 @@ judge-table-spec =
     loop-holds
     pair-at-requires
     add-e
-    sub-judge-row
-    part-judge-row-start
+    (λ c. search needs)
+    (λ c. search needs)
     part-judge-row-end
-    judge-row-requires
-    enum-known-s
-    enum-told
+    (λ c κs. search needs)
+    (λ c. search needs)
+    (λ c. search needs)
     returns
     add-end
-    sub-ascends
-    part-ascends-start
-    part-ascends-end
-    sub-ascends-2
-    part-ascends-start-2
+    (λ c. search needs)
+    (λ c. search needs)
+    (λ c. search needs)
+    (λ c. search needs)
+    (λ c. search needs)
     part-ascends-end-2
-    ascends-requires
+    (λ c κs. search needs)
     returns-2
-    add-g
-    add-i
-    loop-less
+    (λ c. search needs)
+    (λ c. search needs)
+    (λ c. search needs)
     loop-again
     returns-3)

@@ -40,40 +40,10 @@ all-rows c = few _ _ _ _ (kept c)
 returns : tie.Need-returns
 returns c = surveyed-bad _ (image-tiny (c .before .before .args .w .now) (c .if1 .taken))
 
-pair-at-requires : tie.Need-pair-at-requires
-pair-at-requires c κs = search needs
-
-pair-at-requires-2 : tie.Need-pair-at-requires-2
-pair-at-requires-2 c κs = search needs
-
-pair-at-requires-3 : tie.Need-pair-at-requires-3
-pair-at-requires-3 c κs = search needs
-
-pair-at-requires-4 : tie.Need-pair-at-requires-4
-pair-at-requires-4 c κs = search needs
-
-limited-requires : tie.Need-limited-requires
-limited-requires c κs = search needs
-
 returns-2 : tie.Need-returns-2
 returns-2 c =
     let l = c .before in
     surveyed-bad _ (image-full (counted (l .before)) (l .before .before .before .before .before .if1 .left) (sym (l .limited .ensures) ∙ not-true (l .limited .result) (c .if2 .taken)))
-
-add-n : tie.Need-add-n
-add-n c = search needs
-
-add-n-2 : tie.Need-add-n-2
-add-n-2 c = search needs
-
-add-n-3 : tie.Need-add-n-3
-add-n-3 c = search needs
-
-mul-rows : tie.Need-mul-rows
-mul-rows c = search needs
-
-add-rows : tie.Need-add-rows
-add-rows c = search needs
 
 returns-3 : tie.Need-returns-3
 returns-3 c =
@@ -82,9 +52,6 @@ returns-3 c =
 
 sum-requires : tie.Need-sum-requires
 sum-requires c κs = (omega arith, all-rows (c .before))
-
-add-if4 : tie.Need-add-if4
-add-if4 c = search needs
 
 returns-4 : tie.Need-returns-4
 returns-4 c =
@@ -107,20 +74,20 @@ survey-image-spec =
     tie.close
     (tie.spec
     returns
-    pair-at-requires
-    pair-at-requires-2
-    pair-at-requires-3
-    pair-at-requires-4
-    limited-requires
+    (λ c κs. search needs)
+    (λ c κs. search needs)
+    (λ c κs. search needs)
+    (λ c κs. search needs)
+    (λ c κs. search needs)
     returns-2
-    add-n
-    add-n-2
-    add-n-3
-    mul-rows
-    add-rows
+    (λ c. search needs)
+    (λ c. search needs)
+    (λ c. search needs)
+    (λ c. search needs)
+    (λ c. search needs)
     returns-3
     sum-requires
-    add-if4
+    (λ c. search needs)
     returns-4
     judge-rows-requires
     returns-5)

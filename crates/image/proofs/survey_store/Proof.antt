@@ -40,40 +40,10 @@ all-rows c = few _ _ _ _ (kept c)
 returns : tie.Need-returns
 returns c = surveyed-bad _ (store-other (c .before .before .args .w .now) (c .if1 .taken))
 
-pair-at-requires : tie.Need-pair-at-requires
-pair-at-requires c κs = search needs
-
-pair-at-requires-2 : tie.Need-pair-at-requires-2
-pair-at-requires-2 c κs = search needs
-
-pair-at-requires-3 : tie.Need-pair-at-requires-3
-pair-at-requires-3 c κs = search needs
-
-pair-at-requires-4 : tie.Need-pair-at-requires-4
-pair-at-requires-4 c κs = search needs
-
-limited-requires : tie.Need-limited-requires
-limited-requires c κs = search needs
-
 returns-2 : tie.Need-returns-2
 returns-2 c =
     let l = c .before in
     surveyed-bad _ (store-full (counted (l .before)) (sym (l .limited .ensures) ∙ not-true (l .limited .result) (c .if2 .taken)))
-
-add-n : tie.Need-add-n
-add-n c = search needs
-
-add-n-2 : tie.Need-add-n-2
-add-n-2 c = search needs
-
-add-n-3 : tie.Need-add-n-3
-add-n-3 c = search needs
-
-mul-rows : tie.Need-mul-rows
-mul-rows c = search needs
-
-add-rows : tie.Need-add-rows
-add-rows c = search needs
 
 sub-if3 : tie.Need-sub-if3
 sub-if3 c = omega (arith, all-rows c)
@@ -89,9 +59,6 @@ returns-3 c =
 judge-rows-requires : tie.Need-judge-rows-requires
 judge-rows-requires c κs = (all-rows (c .before .before), omega (arith, c .before .sum .ensures .0, all-rows (c .before .before)))
 
-sound-rows-requires : tie.Need-sound-rows-requires
-sound-rows-requires c κs = search needs
-
 returns-4 : tie.Need-returns-4
 returns-4 c =
     let u = c .before .before .before in
@@ -104,20 +71,20 @@ survey-store-spec =
     tie.close
     (tie.spec
     returns
-    pair-at-requires
-    pair-at-requires-2
-    pair-at-requires-3
-    pair-at-requires-4
-    limited-requires
+    (λ c κs. search needs)
+    (λ c κs. search needs)
+    (λ c κs. search needs)
+    (λ c κs. search needs)
+    (λ c κs. search needs)
     returns-2
-    add-n
-    add-n-2
-    add-n-3
-    mul-rows
-    add-rows
+    (λ c. search needs)
+    (λ c. search needs)
+    (λ c. search needs)
+    (λ c. search needs)
+    (λ c. search needs)
     sub-if3
     sum-requires
     returns-3
     judge-rows-requires
-    sound-rows-requires
+    (λ c κs. search needs)
     returns-4)

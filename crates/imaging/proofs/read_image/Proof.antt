@@ -18,15 +18,6 @@ start s = s .before .before
 none-wrong : (c : tie.After-enum-told) → imageFault (start (c .before .before) .args .image .now) ≡ none
 none-wrong c = laid-none _ _ (sym (c .enum-told .given .1) ∙ c .before .before .survey-image .ensures) .0
 
-survey-image-requires : tie.Need-survey-image-requires
-survey-image-requires c κs = search needs
-
-enum-known-surveyed : tie.Need-enum-known-surveyed
-enum-known-surveyed c = search needs
-
-enum-told : tie.Need-enum-told
-enum-told c = search needs
-
 copy-in-requires : tie.Need-copy-in-requires
 copy-in-requires c κs = omega (arith, image-room (start (c .before .before .before) .args .image .now) (none-wrong (c .before)), c .copy-in-arg .given .0 .1)
 
@@ -46,9 +37,9 @@ pub read-image-spec : {M : Type 1} → statement M
 read-image-spec =
     tie.close
     (tie.spec
-    survey-image-requires
-    enum-known-surveyed
-    enum-told
+    (λ c κs. search needs)
+    (λ c. search needs)
+    (λ c. search needs)
     copy-in-requires
     returns
     returns-2)

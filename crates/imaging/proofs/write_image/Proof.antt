@@ -5,7 +5,7 @@ use mathlib.Core.Path.{_≡_, sym, _∙_}
 use mathlib.Core.Bool.{true}
 use native.Mathlib.Omega.{arith}
 use borrow.Author.Needs.{needs}
-use Rattle.rows.proofs.Inverse.{Bytes}
+use Rattle.big_endian.specs.BigEndian.{Octets}
 use Rattle.image.specs.Layout.{layoutOf}
 use Rattle.image.specs.Store.{isSound}
 use Rattle.image.proofs.Surveys.{store-laid, store-bad}
@@ -17,7 +17,7 @@ use Rattle.imaging.proofs.write_image.Tie as tie
 abbrev start : tie.After-survey-store → tie.Start
 start s = s .before .before .before
 
-bytes : (s : tie.After-survey-store) → Bytes (start s .args .store .now)
+bytes : (s : tie.After-survey-store) → Octets (start s .args .store .now)
 bytes s i = omega (arith, s .before .before .shared-slice-known .given i)
 
 -- the store is sound, and its layout known
@@ -28,15 +28,6 @@ laid k = let s = k .before .before .before in store-laid (start s .args .store .
 -- all its rows
 all : (c : tie.After-all-rows) → AllIn (start (c .before .before .before .before) .args .store .now) (c .all-rows .result)
 all c = let k = c .before in all-laid (start (k .before .before .before) .args .store .now) (laid k .0) (laid k .1) (c .all-rows .ensures)
-
-survey-store-requires : tie.Need-survey-store-requires
-survey-store-requires c κs = search needs
-
-enum-known-surveyed : tie.Need-enum-known-surveyed
-enum-known-surveyed c = search needs
-
-enum-told : tie.Need-enum-told
-enum-told c = search needs
 
 returns : tie.Need-returns
 returns c =
@@ -56,17 +47,8 @@ returns-2 c =
     let s = k .before .before .before in
     writes-short (start s .args .store .now) (start s .args .out .now) (bytes s) (laid k .0) (all (e .before)) (e .end-of .ensures) (c .if1 .taken)
 
-sub-copy-in : tie.Need-sub-copy-in
-sub-copy-in c = search needs
-
-part-copy-in-start : tie.Need-part-copy-in-start
-part-copy-in-start c = search needs
-
 part-copy-in-end : tie.Need-part-copy-in-end
 part-copy-in-end c = omega (arith, all (c .before .before .before) .inside .rows-in)
-
-copy-in-requires : tie.Need-copy-in-requires
-copy-in-requires c κs = search needs
 
 write-rows-requires : tie.Need-write-rows-requires
 write-rows-requires c κs =
@@ -78,9 +60,6 @@ write-rows-requires c κs =
       omega (arith, t .if1 .left, t .before .end-of .ensures, k .copy-in .kept .0),
       take-copied (start s .args .store .now) (start s .args .out .now) (t .before .before .all-rows .result .rows) (omega (arith, a .inside .rows-in)) (k .copy-in .ensures),
     )
-
-same-length : tie.Need-same-length
-same-length c = search needs
 
 returns-3 : tie.Need-returns-3
 returns-3 c =
@@ -96,17 +75,17 @@ pub write-image-spec : {M : Type 1} → statement M
 write-image-spec =
     tie.close
     (tie.spec
-    survey-store-requires
-    enum-known-surveyed
-    enum-told
+    (λ c κs. search needs)
+    (λ c. search needs)
+    (λ c. search needs)
     returns
     all-rows-requires
     end-of-requires
     returns-2
-    sub-copy-in
-    part-copy-in-start
+    (λ c. search needs)
+    (λ c. search needs)
     part-copy-in-end
-    copy-in-requires
+    (λ c κs. search needs)
     write-rows-requires
-    same-length
+    (λ c. search needs)
     returns-3)

@@ -5,12 +5,6 @@ use Rattle.imaging.proofs.Parts.{paste-all}
 use Rattle.imaging.proofs.write_row.Statement.{statement}
 use Rattle.imaging.proofs.write_row.Tie as tie
 
-copy-in-requires : tie.Need-copy-in-requires
-copy-in-requires c κs = search needs
-
-same-length : tie.Need-same-length
-same-length c = search needs
-
 returns : tie.Need-returns
 returns c =
     let k = c .before .before in
@@ -18,4 +12,4 @@ returns c =
     k .copy-in .ensures ∙ paste-all (s .args .row .now) (s .args .part .now) (s .pre)
 
 pub write-row-spec : {M : Type 1} → statement M
-write-row-spec = tie.close (tie.spec copy-in-requires same-length returns)
+write-row-spec = tie.close (tie.spec (λ c κs. search needs) (λ c. search needs) returns)

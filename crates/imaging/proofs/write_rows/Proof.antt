@@ -45,20 +45,8 @@ pair-at-requires c κs = walk-length (c .before .loop .inv .0) (start (c .before
 add-e : tie.Need-add-e Inv-loop μ-loop
 add-e c = let e = ends c in search needs
 
-sub-write-row : tie.Need-sub-write-row Inv-loop μ-loop
-sub-write-row c = search needs
-
-part-write-row-start : tie.Need-part-write-row-start Inv-loop μ-loop
-part-write-row-start c = search needs
-
 part-write-row-end : tie.Need-part-write-row-end Inv-loop μ-loop
 part-write-row-end c = omega (arith, ends c, c .before .before .loop .inv .2)
-
-sub-write-row-2 : tie.Need-sub-write-row-2 Inv-loop μ-loop
-sub-write-row-2 c = search needs
-
-part-write-row-start-2 : tie.Need-part-write-row-start-2 Inv-loop μ-loop
-part-write-row-start-2 c = search needs
 
 part-write-row-end-2 : tie.Need-part-write-row-end-2 Inv-loop μ-loop
 part-write-row-end-2 c = omega (arith, ends (c .before))
@@ -76,12 +64,6 @@ add-g c =
     let i = c .before .before .before .before .before .before in
     let h = walk-length (i .before .loop .inv .0) (start (i .before) .pre .0) (i .loop-test .taken) in
     search needs
-
-add-i : tie.Need-add-i Inv-loop μ-loop
-add-i c = search needs
-
-loop-less : tie.Need-loop-less Inv-loop μ-loop
-loop-less c = search needs
 
 loop-again : tie.Need-loop-again Inv-loop μ-loop
 loop-again c =
@@ -111,16 +93,16 @@ write-rows-spec =
     loop-holds
     pair-at-requires
     add-e
-    sub-write-row
-    part-write-row-start
+    (λ c. search needs)
+    (λ c. search needs)
     part-write-row-end
-    sub-write-row-2
-    part-write-row-start-2
+    (λ c. search needs)
+    (λ c. search needs)
     part-write-row-end-2
     write-row-requires
     add-g
-    add-i
-    loop-less
+    (λ c. search needs)
+    (λ c. search needs)
     loop-again
     same-length
     returns)

@@ -2,7 +2,8 @@
 use mathlib.Core.List.{[], _∷_}
 use native.Mathlib.Omega.{arith}
 use borrow.Author.Needs.{needs}
-use Rattle.rows.specs.Fields.{octet, word, Field, sequence, integer}
+use Rattle.big_endian.specs.BigEndian.{octet, quad}
+use Rattle.rows.specs.Fields.{Field, sequence, integer}
 use Rattle.rows.specs.Rows.{accessKey}
 use Rattle.instance.proofs.Joining.{OnWay, way-start, way-next, way-stop, way-end}
 use Rattle.instance.proofs.access.Statement.{statement}
@@ -16,7 +17,7 @@ abbrev level : Field
 level = integer octet 1 3
 
 abbrev model : Field
-model = integer word 0 2147483647
+model = integer quad 0 2147483647
 
 abbrev prefix : Field
 prefix = sequence octet 0 32
@@ -42,18 +43,6 @@ fourth : (c : tie.After-known-told3) → let p = c .before .before .before .befo
 fourth c = way-next (third (c .before .before .before .before .before .before .before)) _
     (c .before .before .before .before .before .large .ensures) (c .before .model .given .1)
 
-name-requires : tie.Need-name-requires
-name-requires c κs = search needs
-
-enum-known-group : tie.Need-enum-known-group
-enum-known-group c = search needs
-
-enum-told : tie.Need-enum-told
-enum-told c = search needs
-
-same-length : tie.Need-same-length
-same-length c = search needs
-
 returns : tie.Need-returns
 returns c = let l = c .before .before .before .before .name in
     way-stop (start (c .before .before .before .before .before .before .before .before)) (l .last .1 .1 .1 .1 .0) (l .last .1 .1 .1 .1 .0)
@@ -61,15 +50,6 @@ returns c = let l = c .before .before .before .before .name in
 
 name-requires-2 : tie.Need-name-requires-2
 name-requires-2 c κs = omega (arith, second (c .before) .room)
-
-enum-known-prefix : tie.Need-enum-known-prefix
-enum-known-prefix c = search needs
-
-enum-told-2 : tie.Need-enum-told-2
-enum-told-2 c = search needs
-
-same-length-2 : tie.Need-same-length-2
-same-length-2 c = search needs
 
 returns-2 : tie.Need-returns-2
 returns-2 c = let l = c .before .before .before .before .name2 in
@@ -79,15 +59,6 @@ returns-2 c = let l = c .before .before .before .before .name2 in
 large-requires : tie.Need-large-requires
 large-requires c κs = omega (arith, third (c .before) .room)
 
-enum-known-model : tie.Need-enum-known-model
-enum-known-model c = search needs
-
-enum-told-3 : tie.Need-enum-told-3
-enum-told-3 c = search needs
-
-same-length-3 : tie.Need-same-length-3
-same-length-3 c = search needs
-
 returns-3 : tie.Need-returns-3
 returns-3 c = let l = c .before .before .before .before .large in
     way-stop (third (c .before .before .before .before .before .before)) (l .last .1 .1 .1 .1 .0) (l .last .1 .1 .1 .1 .0) (l .ensures)
@@ -95,9 +66,6 @@ returns-3 c = let l = c .before .before .before .before .large in
 
 small-requires : tie.Need-small-requires
 small-requires c κs = omega (arith, fourth (c .before) .room)
-
-same-length-4 : tie.Need-same-length-4
-same-length-4 c = search needs
 
 returns-4 : tie.Need-returns-4
 returns-4 c = let l = c .before .before .small in
@@ -107,21 +75,21 @@ pub access-spec : {M : Type 1} → statement M
 access-spec =
     tie.close
     (tie.spec
-    name-requires
-    enum-known-group
-    enum-told
-    same-length
+    (λ c κs. search needs)
+    (λ c. search needs)
+    (λ c. search needs)
+    (λ c. search needs)
     returns
     name-requires-2
-    enum-known-prefix
-    enum-told-2
-    same-length-2
+    (λ c. search needs)
+    (λ c. search needs)
+    (λ c. search needs)
     returns-2
     large-requires
-    enum-known-model
-    enum-told-3
-    same-length-3
+    (λ c. search needs)
+    (λ c. search needs)
+    (λ c. search needs)
     returns-3
     small-requires
-    same-length-4
+    (λ c. search needs)
     returns-4)

@@ -1,15 +1,10 @@
 -- `instance::context` meets its contract: a name, read alone (`Joining`). Assumes nothing.
 use borrow.Author.Needs.{needs}
-use Rattle.rows.specs.Fields.{octet, sequence}
+use Rattle.big_endian.specs.BigEndian.{octet}
+use Rattle.rows.specs.Fields.{sequence}
 use Rattle.instance.proofs.Joining.{read-alone}
 use Rattle.instance.proofs.context.Statement.{statement}
 use Rattle.instance.proofs.context.Tie as tie
-
-name-requires : tie.Need-name-requires
-name-requires c κs = search needs
-
-same-length : tie.Need-same-length
-same-length c = search needs
 
 returns : tie.Need-returns
 returns c =
@@ -17,4 +12,4 @@ returns c =
     read-alone (sequence octet 0 32) (s .index .now) (s .key .now) _ (s .at) (c .before .before .name .result) (c .before .before .name .ensures)
 
 pub context-spec : {M : Type 1} → statement M
-context-spec = tie.close (tie.spec name-requires same-length returns)
+context-spec = tie.close (tie.spec (λ c κs. search needs) (λ c. search needs) returns)

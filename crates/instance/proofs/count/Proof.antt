@@ -18,15 +18,6 @@ part : (c : tie.After-known-told) → let s = c .before .before .before .before 
     PartOf (s .lo) (s .hi) (s .index .now) (s .at) (c .before .n .given .0 .0)
 part c = let s = c .before .before .before .before .before .args in part-of (s .lo) (s .hi) (s .index .now) (s .at) (found c)
 
-number-requires : tie.Need-number-requires
-number-requires c κs = search needs
-
-enum-known-n : tie.Need-enum-known-n
-enum-known-n c = search needs
-
-enum-told : tie.Need-enum-told
-enum-told c = search needs
-
 returns : tie.Need-returns
 returns c =
     let s = c .before .before .before .before .args in
@@ -38,9 +29,6 @@ add-if1 c = omega (arith, part c .inside)
 
 sub-if1 : tie.Need-sub-if1
 sub-if1 c = omega (arith, part c .inside)
-
-cast-if1 : tie.Need-cast-if1
-cast-if1 c = search needs
 
 returns-2 : tie.Need-returns-2
 returns-2 c =
@@ -58,12 +46,12 @@ pub count-spec : {M : Type 1} → statement M
 count-spec =
     tie.close
     (tie.spec
-    number-requires
-    enum-known-n
-    enum-told
+    (λ c κs. search needs)
+    (λ c. search needs)
+    (λ c. search needs)
     returns
     add-if1
     sub-if1
-    cast-if1
+    (λ c. search needs)
     returns-2
     returns-3)

@@ -21,18 +21,6 @@ all c =
     took (rowBytes (keyFields (s .t))) (s .index .now) (s .made .now) (r .last .1 .1 .1 .0) (record { part = 0; byte = 0 })
     (parseFields (keyFields (s .t)) (s .index .now)) (r .ensures) (c .before .read .given .1)
 
-read-fields-requires : tie.Need-read-fields-requires
-read-fields-requires c κs = search needs
-
-enum-known-read : tie.Need-enum-known-read
-enum-known-read c = search needs
-
-enum-told : tie.Need-enum-told
-enum-told c = search needs
-
-same-length : tie.Need-same-length
-same-length c = search needs
-
 returns : tie.Need-returns
 returns c =
     let s = c .before .before .before .before .before .before .before .before .before .args in
@@ -41,18 +29,9 @@ returns c =
     (untaken (rowBytes (keyFields (s .t))) (s .index .now) (s .made .now) (r .last .1 .1 .1 .0) (record { part = 0; byte = 0 })
     (parseFields (keyFields (s .t)) (s .index .now)) (r .ensures) (c .enum-told .given .1))
 
-same-length-2 : tie.Need-same-length-2
-same-length-2 c = search needs
-
 returns-2 : tie.Need-returns-2
 returns-2 c = let s = c .before .before .before .before .before .before .before .before .before .before .before .before .args in
     index-over (s .t) (s .column) (s .index .now) (s .key .now) (all (c .before .before)) (c .if1 .taken)
-
-sub-copy-in : tie.Need-sub-copy-in
-sub-copy-in c = search needs
-
-part-copy-in-start : tie.Need-part-copy-in-start
-part-copy-in-start c = search needs
 
 part-copy-in-end : tie.Need-part-copy-in-end
 part-copy-in-end c = let s = c .before .before .before .before .before .before .before .before .before .before .before .before .before .before .args in made-room (s .t) (s .column) (s .index .now) (s .key .now) (all (c .before .before .before .before))
@@ -69,12 +48,6 @@ copy-in-requires c κs =
       k .before .before .before .before .before .before .before .before .before .before .pre,
     )
 
-same-length-3 : tie.Need-same-length-3
-same-length-3 c = search needs
-
-same-length-4 : tie.Need-same-length-4
-same-length-4 c = search needs
-
 returns-3 : tie.Need-returns-3
 returns-3 c =
     let s = c .before .before .before .before .before .before .before .before .before .before .before .before .before .before .before .before .before .before .args in
@@ -85,17 +58,17 @@ pub decode-index-spec : {M : Type 1} → statement M
 decode-index-spec =
     tie.close
     (tie.spec
-    read-fields-requires
-    enum-known-read
-    enum-told
-    same-length
+    (λ c κs. search needs)
+    (λ c. search needs)
+    (λ c. search needs)
+    (λ c. search needs)
     returns
-    same-length-2
+    (λ c. search needs)
     returns-2
-    sub-copy-in
-    part-copy-in-start
+    (λ c. search needs)
+    (λ c. search needs)
     part-copy-in-end
     copy-in-requires
-    same-length-3
-    same-length-4
+    (λ c. search needs)
+    (λ c. search needs)
     returns-3)

@@ -33,22 +33,10 @@ size c =
     let s = c .before .before .before .before .before .before .before .before .before .args in
     omega (arith, instance-length (s .t) (s .column) (keyIndex (s .t) (s .key .now)), c .before .base-len .ensures .0, c .index-len .ensures .0)
 
-is-listed-requires : tie.Need-is-listed-requires
-is-listed-requires c κs = search needs
-
 returns : tie.Need-returns
 returns c =
     let s = c .before .before .before .before .args in
     encode-unlisted (s .t) (s .column) (s .key .now) (s .out .now) (sym (c .before .is-listed .ensures) ∙ not-true _ (c .if1 .taken))
-
-judge-key-requires : tie.Need-judge-key-requires
-judge-key-requires c κs = search needs
-
-enum-told : tie.Need-enum-told
-enum-told c = search needs
-
-enum-told-2 : tie.Need-enum-told-2
-enum-told-2 c = search needs
 
 returns-2 : tie.Need-returns-2
 returns-2 c =
@@ -56,9 +44,6 @@ returns-2 c =
     encode-faulty (s .t) (s .column) (s .key .now) (s .out .now)
     (reached-bad (faults (keyFields (s .t)) (s .key .now)) (span (keyFields (s .t)) (s .key .now)) _
     (sym (c .before .before .judge-key .ensures) ∙ c .enum-told2 .given .1))
-
-base-len-requires : tie.Need-base-len-requires
-base-len-requires c κs = search needs
 
 add-n : tie.Need-add-n
 add-n c = omega (arith, c .base-len .ensures .1)
@@ -80,15 +65,6 @@ returns-3 c =
     encode-short (s .t) (s .column) (s .key .now) (s .out .now) (listed (c .before .before .before .before .before .before))
     (sound (c .before .before .before)) (omega (arith, size (c .before), c .if2 .taken))
 
-sub-put-instance : tie.Need-sub-put-instance
-sub-put-instance c = search needs
-
-part-put-instance-start : tie.Need-part-put-instance-start
-part-put-instance-start c = search needs
-
-part-put-instance-end : tie.Need-part-put-instance-end
-part-put-instance-end c = search needs
-
 put-instance-requires : tie.Need-put-instance-requires
 put-instance-requires c κs =
     let s = c .before .before .before .before .before .before .before .before .before .before .before .args in (
@@ -101,9 +77,6 @@ put-instance-requires c κs =
             (c .before .before .before .base-len .result + 1 + c .before .before .index-len .result) (s .out .now),
       ),
     )
-
-same-length : tie.Need-same-length
-same-length c = search needs
 
 returns-4 : tie.Need-returns-4
 returns-4 c =
@@ -120,20 +93,20 @@ pub encode-spec : {M : Type 1} → statement M
 encode-spec =
     tie.close
     (tie.spec
-    is-listed-requires
+    (λ c κs. search needs)
     returns
-    judge-key-requires
-    enum-told
-    enum-told-2
+    (λ c κs. search needs)
+    (λ c. search needs)
+    (λ c. search needs)
     returns-2
-    base-len-requires
+    (λ c κs. search needs)
     add-n
     index-len-requires
     add-n-2
     returns-3
-    sub-put-instance
-    part-put-instance-start
-    part-put-instance-end
+    (λ c. search needs)
+    (λ c. search needs)
+    (λ c. search needs)
     put-instance-requires
-    same-length
+    (λ c. search needs)
     returns-4)

@@ -14,9 +14,6 @@ length-is : (c : tie.After-words-in) → let s = c .before .before in
     length (keyIndex (s .args .t) (s .args .key .now)) + 3 * c .words-in .result ≡ length (s .args .key .now)
 length-is c = let s = c .before .before in rw (c .words-in .ensures) (index-length (s .args .t) (s .args .key .now) (s .pre))
 
-words-in-requires : tie.Need-words-in-requires
-words-in-requires c κs = search needs
-
 mul-result : tie.Need-mul-result
 mul-result c = omega (arith, length-is c)
 
@@ -27,4 +24,4 @@ returns : tie.Need-returns
 returns c = omega (arith, length-is c)
 
 pub index-len-spec : {M : Type 1} → statement M
-index-len-spec = tie.close (tie.spec words-in-requires mul-result sub-result returns)
+index-len-spec = tie.close (tie.spec (λ c κs. search needs) mul-result sub-result returns)

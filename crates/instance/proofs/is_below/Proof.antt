@@ -8,26 +8,11 @@ use Rattle.instance.proofs.Bases.{base-padded, base-taken}
 use Rattle.instance.proofs.is_below.Statement.{statement}
 use Rattle.instance.proofs.is_below.Tie as tie
 
-base-of-requires : tie.Need-base-of-requires
-base-of-requires c κs = search needs
-
-base-len-requires : tie.Need-base-len-requires
-base-len-requires c κs = search needs
-
-sub-begins-with : tie.Need-sub-begins-with
-sub-begins-with c = search needs
-
-part-begins-with-start : tie.Need-part-begins-with-start
-part-begins-with-start c = search needs
-
 part-begins-with-end : tie.Need-part-begins-with-end
 part-begins-with-end c =
     let f = c .before .before in
     let l : length (f .base-of .result) ≡ 11 = ap length (f .base-of .ensures) ∙ base-padded (f .before .before .args .t) in
     omega (arith, c .before .base-len .ensures .1)
-
-begins-with-requires : tie.Need-begins-with-requires
-begins-with-requires c κs = search needs
 
 returns : tie.Need-returns
 returns c =
@@ -41,10 +26,10 @@ pub is-below-spec : {M : Type 1} → statement M
 is-below-spec =
     tie.close
     (tie.spec
-    base-of-requires
-    base-len-requires
-    sub-begins-with
-    part-begins-with-start
+    (λ c κs. search needs)
+    (λ c κs. search needs)
+    (λ c. search needs)
+    (λ c. search needs)
     part-begins-with-end
-    begins-with-requires
+    (λ c κs. search needs)
     returns)

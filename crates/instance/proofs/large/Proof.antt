@@ -2,7 +2,7 @@
 use mathlib.Core.Path.{_≡_, sym, _∙_}
 use native.Mathlib.Omega.{arith}
 use borrow.Author.Needs.{needs}
-use Rattle.rows.specs.Fields.{word}
+use Rattle.big_endian.specs.BigEndian.{quad}
 use Rattle.instance.specs.Reading.{partAt}
 use Rattle.instance.specs.declared.Part.the-variants.{Of}
 use Rattle.instance.proofs.Taking.{number-bad, number-taken}
@@ -18,50 +18,32 @@ part : (c : tie.After-known-told) → let s = c .before .before .before .before 
     PartOf (s .lo) (s .hi) (s .index .now) (s .at .part) (c .before .part .given .0 .0)
 part c = let s = c .before .before .before .before .before .before .args in part-of (s .lo) (s .hi) (s .index .now) (s .at .part) (found c)
 
-number-requires : tie.Need-number-requires
-number-requires c κs = search needs
-
-enum-known-part : tie.Need-enum-known-part
-enum-known-part c = search needs
-
-enum-told : tie.Need-enum-told
-enum-told c = search needs
-
 returns : tie.Need-returns
 returns c =
     let s = c .before .before .before .before .before .args in
-    number-bad word (s .lo) (s .hi) (s .index .now) (s .key .now) (s .key .now) (s .at) (sym (c .before .before .number .ensures)
+    number-bad quad (s .lo) (s .hi) (s .index .now) (s .key .now) (s .key .now) (s .at) (sym (c .before .before .number .ensures)
     ∙ c .enum-told .given .1)
-
-write-word-requires : tie.Need-write-word-requires
-write-word-requires c κs = search needs
 
 add-t13 : tie.Need-add-t13
 add-t13 c = omega (arith, part (c .before .before .before .before) .inside)
-
-add-t14 : tie.Need-add-t14
-add-t14 c = search needs
-
-same-length : tie.Need-same-length
-same-length c = search needs
 
 returns-2 : tie.Need-returns-2
 returns-2 c =
     let t = c .before .before .before .before in
     let s = t .before .before .before .before .before .before .args in
-    number-taken word (s .lo) (s .hi) (s .index .now) (s .key .now) _ (s .at) (found t)
-    (omega (arith, part t .most, t .before .before .before .before .before .before .fits .hi)) (c .before .before .write-word .ensures)
+    number-taken quad (s .lo) (s .hi) (s .index .now) (s .key .now) _ (s .at) (found t)
+    (omega (arith, part t .most, t .before .before .before .before .before .before .fits .hi)) (c .before .before .put-quad .ensures)
 
 pub large-spec : {M : Type 1} → statement M
 large-spec =
     tie.close
     (tie.spec
-    number-requires
-    enum-known-part
-    enum-told
+    (λ c κs. search needs)
+    (λ c. search needs)
+    (λ c. search needs)
     returns
-    write-word-requires
+    (λ c κs. search needs)
     add-t13
-    add-t14
-    same-length
+    (λ c. search needs)
+    (λ c. search needs)
     returns-2)

@@ -2,7 +2,8 @@
 use mathlib.Core.List.{[], _∷_}
 use native.Mathlib.Omega.{arith}
 use borrow.Author.Needs.{needs}
-use Rattle.rows.specs.Fields.{octet, word, Field, sequence, integer}
+use Rattle.big_endian.specs.BigEndian.{octet, quad}
+use Rattle.rows.specs.Fields.{Field, sequence, integer}
 use Rattle.rows.specs.Rows.{mappingKey}
 use Rattle.instance.proofs.Joining.{OnWay, way-start, way-next, way-stop, way-end}
 use Rattle.instance.proofs.mapping.Statement.{statement}
@@ -17,18 +18,6 @@ second : (c : tie.After-known-told) → let s = c .before .before .before .befor
 second c = way-next (start (c .before .before .before .before .before .before .before .before .before)) _
     (c .before .before .before .before .before .large .ensures) (c .before .model .given .1)
 
-large-requires : tie.Need-large-requires
-large-requires c κs = search needs
-
-enum-known-model : tie.Need-enum-known-model
-enum-known-model c = search needs
-
-enum-told : tie.Need-enum-told
-enum-told c = search needs
-
-same-length : tie.Need-same-length
-same-length c = search needs
-
 returns : tie.Need-returns
 returns c = let l = c .before .before .before .before .large in
     way-stop (start (c .before .before .before .before .before .before .before .before)) (l .last .1 .1 .1 .1 .0) (l .last .1 .1 .1 .1 .0)
@@ -36,9 +25,6 @@ returns c = let l = c .before .before .before .before .large in
 
 name-requires : tie.Need-name-requires
 name-requires c κs = omega (arith, second (c .before) .room)
-
-same-length-2 : tie.Need-same-length-2
-same-length-2 c = search needs
 
 returns-2 : tie.Need-returns-2
 returns-2 c = let l = c .before .before .name in
@@ -48,11 +34,11 @@ pub mapping-spec : {M : Type 1} → statement M
 mapping-spec =
     tie.close
     (tie.spec
-    large-requires
-    enum-known-model
-    enum-told
-    same-length
+    (λ c κs. search needs)
+    (λ c. search needs)
+    (λ c. search needs)
+    (λ c. search needs)
     returns
     name-requires
-    same-length-2
+    (λ c. search needs)
     returns-2)

@@ -8,8 +8,8 @@ use native.Mathlib.Omega.{arith}
 use lib.ListN.{length, take, drop, length-set}
 use borrow.Author.Needs.{needs}
 use Rattle.lists.proofs.Bools.{not-true, not-false}
-use Rattle.rows.specs.Fields.{octet, fit}
-use Rattle.instance.specs.Buffers.{laid}
+use Rattle.big_endian.specs.BigEndian.{octet, fit}
+use Rattle.lists.specs.Laid.{laid}
 use Rattle.instance.specs.Reading.{countAt}
 use Rattle.instance.specs.declared.Part.the-variants.{Of}
 use Rattle.instance.proofs.Taking.{sequence-bad, sequence-unfit, sequence-taken, parts-length, part-counted, part-length, bytesOf-octet}
@@ -38,23 +38,11 @@ fits : (c : tie.After-write-octets) → let k = c .before .before .before in let
     c .write-octets .result ≡ fit octet (take (k .before .counted .given .0 .0) (drop (s .at .part + 1) (s .index .now)))
 fits c = c .write-octets .ensures .0 ∙ ap (fit octet) (parts c)
 
-count-requires : tie.Need-count-requires
-count-requires c κs = search needs
-
-enum-known-counted : tie.Need-enum-known-counted
-enum-known-counted c = search needs
-
-enum-told : tie.Need-enum-told
-enum-told c = search needs
-
 returns : tie.Need-returns
 returns c =
     let s = c .before .before .before .before .before .args in
     sequence-bad octet (s .lo) (s .hi) (s .index .now) (s .key .now) (s .key .now) (s .at) (sym (c .before .before .count .ensures)
     ∙ c .enum-told .given .1)
-
-cast-n : tie.Need-cast-n
-cast-n c = search needs
 
 add-a : tie.Need-add-a
 add-a c = omega (arith, counted c .part .inside)
@@ -62,23 +50,8 @@ add-a c = omega (arith, counted c .part .inside)
 add-b : tie.Need-add-b
 add-b c = omega (arith, counted c .follow)
 
-add-c : tie.Need-add-c
-add-c c = search needs
-
-add-d : tie.Need-add-d
-add-d c = search needs
-
 cast-key : tie.Need-cast-key
 cast-key c = omega (arith, counted c .part .most)
-
-slice-write-key : tie.Need-slice-write-key
-slice-write-key c = search needs
-
-sub-write-octets : tie.Need-sub-write-octets
-sub-write-octets c = search needs
-
-part-write-octets-start : tie.Need-part-write-octets-start
-part-write-octets-start c = search needs
 
 part-write-octets-end : tie.Need-part-write-octets-end
 part-write-octets-end c = let s = c .before .before .before .before .before .before .args in
@@ -88,17 +61,8 @@ mul-write-octets : tie.Need-mul-write-octets
 mul-write-octets c = let s = c .before .before .before .before .before .before .before in
     omega (arith, counted (c .before) .part .inside, s .good .0 .1)
 
-sub-write-octets-2 : tie.Need-sub-write-octets-2
-sub-write-octets-2 c = search needs
-
-part-write-octets-start-2 : tie.Need-part-write-octets-start-2
-part-write-octets-start-2 c = search needs
-
 part-write-octets-end-2 : tie.Need-part-write-octets-end-2
 part-write-octets-end-2 c = omega (arith, counted (c .before) .follow)
-
-write-octets-requires : tie.Need-write-octets-requires
-write-octets-requires c κs = search needs
 
 same-length : tie.Need-same-length
 same-length c =
@@ -140,25 +104,25 @@ pub name-spec : {M : Type 1} → statement M
 name-spec =
     tie.close
     (tie.spec
-    count-requires
-    enum-known-counted
-    enum-told
+    (λ c κs. search needs)
+    (λ c. search needs)
+    (λ c. search needs)
     returns
-    cast-n
+    (λ c. search needs)
     add-a
     add-b
-    add-c
-    add-d
+    (λ c. search needs)
+    (λ c. search needs)
     cast-key
-    slice-write-key
-    sub-write-octets
-    part-write-octets-start
+    (λ c. search needs)
+    (λ c. search needs)
+    (λ c. search needs)
     part-write-octets-end
     mul-write-octets
-    sub-write-octets-2
-    part-write-octets-start-2
+    (λ c. search needs)
+    (λ c. search needs)
     part-write-octets-end-2
-    write-octets-requires
+    (λ c κs. search needs)
     same-length
     returns-2
     same-length-2

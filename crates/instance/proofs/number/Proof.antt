@@ -17,15 +17,6 @@ found c =
     let s = c .before .before .before .before .before .args in
     of-is (s .index .now) (s .at) (sym (c .before .before .before .part-at .ensures) ∙ c .before .read .given .1)
 
-part-at-requires : tie.Need-part-at-requires
-part-at-requires c κs = search needs
-
-enum-known-read : tie.Need-enum-known-read
-enum-known-read c = search needs
-
-enum-told : tie.Need-enum-told
-enum-told c = search needs
-
 returns : tie.Need-returns
 returns c =
     let s = c .before .before .before .before .args in
@@ -50,4 +41,4 @@ returns-4 c =
     rw (found x .0, found x .1, within-yes (s .lo) (s .hi) _ (c .before .if1 .left) (c .if2 .left))
 
 pub number-spec : {M : Type 1} → statement M
-number-spec = tie.close (tie.spec part-at-requires enum-known-read enum-told returns returns-2 returns-3 returns-4)
+number-spec = tie.close (tie.spec (λ c κs. search needs) (λ c. search needs) (λ c. search needs) returns returns-2 returns-3 returns-4)

@@ -8,12 +8,6 @@ use Rattle.instance.proofs.Encoding.{index-length}
 use Rattle.instance.proofs.put_index.Statement.{statement}
 use Rattle.instance.proofs.put_index.Tie as tie
 
-words-from-requires : tie.Need-words-from-requires
-words-from-requires c κs = search needs
-
-words-in-requires : tie.Need-words-in-requires
-words-in-requires c κs = search needs
-
 put-runs-requires : tie.Need-put-runs-requires
 put-runs-requires c κs =
     let s = c .before .before .before .before .before in
@@ -21,9 +15,6 @@ put-runs-requires c κs =
     let k = s .args .key .now in
     rw (c .before .words-from .ensures, c .words-in .ensures)
     (key-runs t k (s .pre .0) .room, omega (arith, index-length t k (s .pre .0), s .pre .1))
-
-same-length : tie.Need-same-length
-same-length c = search needs
 
 returns : tie.Need-returns
 returns c =
@@ -36,4 +27,4 @@ returns c =
 pub put-index-spec : {M : Type 1} → statement M
 put-index-spec =
     tie.close
-    (tie.spec words-from-requires words-in-requires put-runs-requires same-length returns)
+    (tie.spec (λ c κs. search needs) (λ c κs. search needs) put-runs-requires (λ c. search needs) returns)

@@ -7,7 +7,7 @@ use lib.ListN.{length, drop, set, length-append, length-take, length-drop}
 use borrow.Author.Needs.{needs}
 use Rattle.instance.specs.Instances.{base, keyIndex}
 use Rattle.instance.proofs.Encoding.{instance-length}
-use Rattle.instance.proofs.Laying.{parts-headed, stored-length}
+use Rattle.lists.proofs.Laid.{parts-headed, stored-length}
 use Rattle.instance.proofs.Bases.{base-padded, base-taken}
 use Rattle.instance.proofs.put_instance.Statement.{statement}
 use Rattle.instance.proofs.put_instance.Tie as tie
@@ -60,35 +60,11 @@ stored c =
     let s = b .before .before .before .args in
     stored-length (b .base-len .result) (s .column) (s .out .now) (p .put-parts .last .0) (keyIndex (s .t) (s .key .now)) (front-length p) (room b)
 
-base-len-requires : tie.Need-base-len-requires
-base-len-requires c κs = search needs
-
-add-a : tie.Need-add-a
-add-a c = search needs
-
-base-of-requires : tie.Need-base-of-requires
-base-of-requires c κs = search needs
-
-sub-put-parts : tie.Need-sub-put-parts
-sub-put-parts c = search needs
-
-part-put-parts-start : tie.Need-part-put-parts-start
-part-put-parts-start c = search needs
-
 part-put-parts-end : tie.Need-part-put-parts-end
 part-put-parts-end c = omega (arith, room (c .before))
 
-sub-put-parts-2 : tie.Need-sub-put-parts-2
-sub-put-parts-2 c = search needs
-
-part-put-parts-start-2 : tie.Need-part-put-parts-start-2
-part-put-parts-start-2 c = search needs
-
 part-put-parts-end-2 : tie.Need-part-put-parts-end-2
 part-put-parts-end-2 c = omega (arith, padded (c .before .before), c .before .before .before .base-len .ensures .1)
-
-put-parts-requires : tie.Need-put-parts-requires
-put-parts-requires c κs = search needs
 
 mul-out : tie.Need-mul-out
 mul-out c = omega (arith, short c)
@@ -104,9 +80,6 @@ sub-put-index c = omega (arith, stored c, room (c .before .before .before .befor
 
 part-put-index-start : tie.Need-part-put-index-start
 part-put-index-start c = omega (arith, stored c, room (c .before .before .before .before .before .before .before))
-
-part-put-index-end : tie.Need-part-put-index-end
-part-put-index-end c = search needs
 
 put-index-requires : tie.Need-put-index-requires
 put-index-requires c κs =
@@ -143,22 +116,22 @@ pub put-instance-spec : {M : Type 1} → statement M
 put-instance-spec =
     tie.close
     (tie.spec
-    base-len-requires
-    add-a
-    base-of-requires
-    sub-put-parts
-    part-put-parts-start
+    (λ c κs. search needs)
+    (λ c. search needs)
+    (λ c κs. search needs)
+    (λ c. search needs)
+    (λ c. search needs)
     part-put-parts-end
-    sub-put-parts-2
-    part-put-parts-start-2
+    (λ c. search needs)
+    (λ c. search needs)
     part-put-parts-end-2
-    put-parts-requires
+    (λ c κs. search needs)
     mul-out
     slice-write-out
     mul-put-index
     sub-put-index
     part-put-index-start
-    part-put-index-end
+    (λ c. search needs)
     put-index-requires
     same-length
     returns)

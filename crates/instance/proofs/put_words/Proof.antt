@@ -6,15 +6,14 @@ use Prim.Native.Nat.{_-_, _*_, _<_}
 use native.Mathlib.Omega.{arith}
 use lib.ListN.{length, drop}
 use borrow.Author.Needs.{needs}
-use Rattle.rows.proofs.Inverse.{length-numbers}
-use Rattle.instance.proofs.Words.{getD-numbers}
-use Rattle.instance.proofs.Laying.{Filled, filled-start, filled-next, filled-end}
-use Rattle.rows.specs.Fields.{word, number, numbers}
+use Rattle.big_endian.proofs.BigEndian.{length-numbers, getD-numbers}
+use Rattle.lists.proofs.Laid.{Filled, filled-start, filled-next, filled-end}
+use Rattle.big_endian.specs.BigEndian.{quad, number, numbers}
 use Rattle.instance.proofs.put_words.Statement.{statement}
 use Rattle.instance.proofs.put_words.Tie as tie
 
 abbrev Inv-loop : tie.InvT-loop
-Inv-loop out₀ bytes i₀ o₀ out i o = Filled (numbers word (length out₀) bytes) out₀ out i × (o ≡ i * 4)
+Inv-loop out₀ bytes i₀ o₀ out i o = Filled (numbers quad (length out₀) bytes) out₀ out i × (o ≡ i * 4)
 
 abbrev μ-loop : tie.MeasureT-loop
 μ-loop out₀ bytes i₀ o₀ out i o = length out₀ - i
@@ -22,47 +21,23 @@ abbrev μ-loop : tie.MeasureT-loop
 loop-holds : tie.Need-loop-holds Inv-loop μ-loop
 loop-holds c = (filled-start _ _, refl)
 
-word-at-requires : tie.Need-word-at-requires Inv-loop μ-loop
-word-at-requires c κs = search needs
-
-cast-out : tie.Need-cast-out Inv-loop μ-loop
-cast-out c = search needs
-
-mul-out : tie.Need-mul-out Inv-loop μ-loop
-mul-out c = search needs
-
-slice-write-out : tie.Need-slice-write-out Inv-loop μ-loop
-slice-write-out c = search needs
-
-add-o : tie.Need-add-o Inv-loop μ-loop
-add-o c = search needs
-
-add-i : tie.Need-add-i Inv-loop μ-loop
-add-i c = search needs
-
-loop-less : tie.Need-loop-less Inv-loop μ-loop
-loop-less c = search needs
-
 loop-again : tie.Need-loop-again Inv-loop μ-loop
 loop-again c =
     let l = c .before .before .loop in
     let s = c .before .before .before .before .before .args in
     let n = length (s .out .now) in
     let h : l .i < n = omega (arith, l .inv .0 .same) in
-    let e = c .word-at .ensures .0 ∙ ap (λ m. number word (drop m (s .bytes .now))) (l .inv .1)
-    ∙ sym (getD-numbers word n (l .i) (s .bytes .now) h) in (
-      filled-next (l .inv .0) _ e (omega (arith, length-numbers word n (s .bytes .now))) (omega (arith, length-numbers word n (s .bytes .now))),
+    let e = c .quad-at .ensures .0 ∙ ap (λ m. number quad (drop m (s .bytes .now))) (l .inv .1)
+    ∙ sym (getD-numbers quad n (l .i) (s .bytes .now) h) in (
+      filled-next (l .inv .0) _ e (omega (arith, length-numbers quad n (s .bytes .now))) (omega (arith, length-numbers quad n (s .bytes .now))),
       omega arith,
     )
-
-same-length : tie.Need-same-length Inv-loop μ-loop
-same-length c = search needs
 
 returns : tie.Need-returns Inv-loop μ-loop
 returns c =
     let l = c .before .loop in
     let s = c .before .before .before .before .args in
-    let e = length-numbers word (length (s .out .now)) (s .bytes .now) in
+    let e = length-numbers quad (length (s .out .now)) (s .bytes .now) in
     filled-end (l .inv .0) (omega (arith, e, l .inv .0 .same)) e
 
 pub put-words-spec : {M : Type 1} → statement M
@@ -72,13 +47,13 @@ put-words-spec =
     Inv-loop
     μ-loop
     loop-holds
-    word-at-requires
-    cast-out
-    mul-out
-    slice-write-out
-    add-o
-    add-i
-    loop-less
+    (λ c κs. search needs)
+    (λ c. search needs)
+    (λ c. search needs)
+    (λ c. search needs)
+    (λ c. search needs)
+    (λ c. search needs)
+    (λ c. search needs)
     loop-again
-    same-length
+    (λ c. search needs)
     returns)

@@ -2,10 +2,10 @@
 use mathlib.Core.Path.{_≡_, sym, _∙_}
 use native.Mathlib.Omega.{arith}
 use borrow.Author.Needs.{needs}
-use Rattle.rows.specs.Fields.{octet}
+use Rattle.big_endian.specs.BigEndian.{octet}
 use Rattle.instance.specs.Reading.{partAt}
 use Rattle.instance.specs.declared.Part.the-variants.{Of}
-use Rattle.instance.proofs.Laying.{laid-set}
+use Rattle.lists.proofs.Laid.{laid-set}
 use Rattle.instance.proofs.Taking.{number-bad, number-taken}
 use Rattle.instance.proofs.Parsing.{PartOf, part-of}
 use Rattle.instance.proofs.small.Statement.{statement}
@@ -19,15 +19,6 @@ part : (c : tie.After-known-told) → let s = c .before .before .before .before 
     PartOf (s .lo) (s .hi) (s .index .now) (s .at .part) (c .before .part .given .0 .0)
 part c = let s = c .before .before .before .before .before .before .args in part-of (s .lo) (s .hi) (s .index .now) (s .at .part) (found c)
 
-number-requires : tie.Need-number-requires
-number-requires c κs = search needs
-
-enum-known-part : tie.Need-enum-known-part
-enum-known-part c = search needs
-
-enum-told : tie.Need-enum-told
-enum-told c = search needs
-
 returns : tie.Need-returns
 returns c =
     let s = c .before .before .before .before .before .args in
@@ -37,17 +28,8 @@ returns c =
 cast-key : tie.Need-cast-key
 cast-key c = omega (arith, part c .most)
 
-slice-write-key : tie.Need-slice-write-key
-slice-write-key c = search needs
-
 add-t12 : tie.Need-add-t12
 add-t12 c = omega (arith, part c .inside)
-
-add-t13 : tie.Need-add-t13
-add-t13 c = search needs
-
-same-length : tie.Need-same-length
-same-length c = search needs
 
 returns-2 : tie.Need-returns-2
 returns-2 c =
@@ -60,13 +42,13 @@ pub small-spec : {M : Type 1} → statement M
 small-spec =
     tie.close
     (tie.spec
-    number-requires
-    enum-known-part
-    enum-told
+    (λ c κs. search needs)
+    (λ c. search needs)
+    (λ c. search needs)
     returns
     cast-key
-    slice-write-key
+    (λ c. search needs)
     add-t12
-    add-t13
-    same-length
+    (λ c. search needs)
+    (λ c. search needs)
     returns-2)

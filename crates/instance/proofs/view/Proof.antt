@@ -2,7 +2,8 @@
 use mathlib.Core.List.{[], _∷_}
 use native.Mathlib.Omega.{arith}
 use borrow.Author.Needs.{needs}
-use Rattle.rows.specs.Fields.{octet, word, Field, sequence, integer}
+use Rattle.big_endian.specs.BigEndian.{octet, quad}
+use Rattle.rows.specs.Fields.{Field, sequence, integer}
 use Rattle.rows.specs.Rows.{viewKey}
 use Rattle.instance.proofs.Joining.{OnWay, way-start, way-next, way-stop, way-end}
 use Rattle.instance.proofs.view.Statement.{statement}
@@ -12,22 +13,10 @@ start : (c : tie.Start) → OnWay viewKey (c .args .index .now) (c .args .key .n
 start c = way-start viewKey (c .args .index .now) (c .args .key .now) (c .args .at) (omega arith)
 
 second : (c : tie.After-known-told) → let s = c .before .before .before .before .before .before .before .before .before .args in
-    OnWay viewKey (s .index .now) (s .key .now) (s .at) (sequence word 1 64 ∷ [])
+    OnWay viewKey (s .index .now) (s .key .now) (s .at) (sequence quad 1 64 ∷ [])
     (c .before .before .before .before .before .name .last .1 .1 .1 .1 .0) (c .before .family .given .0 .0)
 second c = way-next (start (c .before .before .before .before .before .before .before .before .before)) _
     (c .before .before .before .before .before .name .ensures) (c .before .family .given .1)
-
-name-requires : tie.Need-name-requires
-name-requires c κs = search needs
-
-enum-known-family : tie.Need-enum-known-family
-enum-known-family c = search needs
-
-enum-told : tie.Need-enum-told
-enum-told c = search needs
-
-same-length : tie.Need-same-length
-same-length c = search needs
 
 returns : tie.Need-returns
 returns c = let l = c .before .before .before .before .name in
@@ -37,9 +26,6 @@ returns c = let l = c .before .before .before .before .name in
 subtree-requires : tie.Need-subtree-requires
 subtree-requires c κs = omega (arith, second (c .before) .room)
 
-same-length-2 : tie.Need-same-length-2
-same-length-2 c = search needs
-
 returns-2 : tie.Need-returns-2
 returns-2 c = let l = c .before .before .subtree in way-end (second (c .before .before .before .before)) (l .last .1 .1 .0) (l .result) (l .ensures)
 
@@ -47,11 +33,11 @@ pub view-spec : {M : Type 1} → statement M
 view-spec =
     tie.close
     (tie.spec
-    name-requires
-    enum-known-family
-    enum-told
-    same-length
+    (λ c κs. search needs)
+    (λ c. search needs)
+    (λ c. search needs)
+    (λ c. search needs)
     returns
     subtree-requires
-    same-length-2
+    (λ c. search needs)
     returns-2)

@@ -12,20 +12,8 @@ use Rattle.instance.proofs.words_from.Tie as tie
 room : (c : tie.After-shared-slice-known) → let k = c .before .before .before .args .key .now in 2 + getD k 0 0 ≤ length k
 room c = let x = c .before .before .before in view-room (x .args .key .now) (rw (c .before .enum-told4 .given .1) at (x .pre))
 
-enum-told : tie.Need-enum-told
-enum-told c = search needs
-
-enum-told-2 : tie.Need-enum-told-2
-enum-told-2 c = search needs
-
-enum-told-3 : tie.Need-enum-told-3
-enum-told-3 c = search needs
-
 sub-result : tie.Need-sub-result
 sub-result c = let x = c .before .before in access-room (x .args .key .now) (rw (c .enum-told3 .given .1) at (x .pre))
-
-enum-told-4 : tie.Need-enum-told-4
-enum-told-4 c = search needs
 
 shared-slice-read-result : tie.Need-shared-slice-read-result
 shared-slice-read-result c = omega (arith, room c)
@@ -35,12 +23,6 @@ cast-result c = omega (arith, c .shared-slice-known .given 0)
 
 add-result : tie.Need-add-result
 add-result c = omega (arith, c .shared-slice-known .given 0)
-
-returns : tie.Need-returns
-returns c = search needs
-
-returns-2 : tie.Need-returns-2
-returns-2 c = search needs
 
 returns-3 : tie.Need-returns-3
 returns-3 c = rw (c .enum-told3 .given .1)
@@ -52,15 +34,15 @@ pub words-from-spec : {M : Type 1} → statement M
 words-from-spec =
     tie.close
     (tie.spec
-    enum-told
-    enum-told-2
-    enum-told-3
+    (λ c. search needs)
+    (λ c. search needs)
+    (λ c. search needs)
     sub-result
-    enum-told-4
+    (λ c. search needs)
     shared-slice-read-result
     cast-result
     add-result
-    returns
-    returns-2
+    (λ c. search needs)
+    (λ c. search needs)
     returns-3
     returns-4)

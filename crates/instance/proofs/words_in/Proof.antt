@@ -12,18 +12,6 @@ use Rattle.instance.proofs.words_in.Tie as tie
 room : (c : tie.After-shared-slice-known) → let k = c .before .before .before .args .key .now in 2 + getD k 0 0 ≤ length k
 room c = let x = c .before .before .before in view-room (x .args .key .now) (rw (c .before .enum-told4 .given .1) at (x .pre))
 
-enum-told : tie.Need-enum-told
-enum-told c = search needs
-
-enum-told-2 : tie.Need-enum-told-2
-enum-told-2 c = search needs
-
-enum-told-3 : tie.Need-enum-told-3
-enum-told-3 c = search needs
-
-enum-told-4 : tie.Need-enum-told-4
-enum-told-4 c = search needs
-
 shared-slice-read-result : tie.Need-shared-slice-read-result
 shared-slice-read-result c = omega (arith, room c)
 
@@ -39,15 +27,6 @@ shared-slice-read-result-2 c = omega (arith, room (c .before))
 cast-result-2 : tie.Need-cast-result-2
 cast-result-2 c = let k = c .before .before .before .before .args .key .now in omega (arith, c .shared-slice-known2 .given (1 + getD k 0 0))
 
-returns : tie.Need-returns
-returns c = search needs
-
-returns-2 : tie.Need-returns-2
-returns-2 c = search needs
-
-returns-3 : tie.Need-returns-3
-returns-3 c = search needs
-
 returns-4 : tie.Need-returns-4
 returns-4 c = rw (c .before .before .enum-told4 .given .1)
 
@@ -55,16 +34,16 @@ pub words-in-spec : {M : Type 1} → statement M
 words-in-spec =
     tie.close
     (tie.spec
-    enum-told
-    enum-told-2
-    enum-told-3
-    enum-told-4
+    (λ c. search needs)
+    (λ c. search needs)
+    (λ c. search needs)
+    (λ c. search needs)
     shared-slice-read-result
     cast-result
     add-result
     shared-slice-read-result-2
     cast-result-2
-    returns
-    returns-2
-    returns-3
+    (λ c. search needs)
+    (λ c. search needs)
+    (λ c. search needs)
     returns-4)

@@ -8,26 +8,8 @@ use Rattle.lines.proofs.answer_last.Tie as tie
 returns : tie.Need-returns
 returns c = let s = c .before .before .before .before in (last-none _ _ (s .args .p .held) (s .args .p .used) (s .args .line .now) _ (c .if1 .taken), omega (arith, s .pre .1 .1))
 
-add-last : tie.Need-add-last
-add-last c = search needs
-
-sub-answer-line : tie.Need-sub-answer-line
-sub-answer-line c = search needs
-
-part-answer-line-start : tie.Need-part-answer-line-start
-part-answer-line-start c = search needs
-
-part-answer-line-end : tie.Need-part-answer-line-end
-part-answer-line-end c = search needs
-
-answer-line-requires : tie.Need-answer-line-requires
-answer-line-requires c κs = search needs
-
 tell-requires : tie.Need-tell-requires
 tell-requires c κs = c .before .before .before .before .before .before .before .before .pre .1 .1 .0
-
-same-length : tie.Need-same-length
-same-length c = search needs
 
 returns-2 : tie.Need-returns-2
 returns-2 c = let s = c .before .before .before .before .before .before .before .before .before .before .before in
@@ -42,11 +24,11 @@ answer-last-spec =
     tie.close
     (tie.spec
     returns
-    add-last
-    sub-answer-line
-    part-answer-line-start
-    part-answer-line-end
-    answer-line-requires
+    (λ c. search needs)
+    (λ c. search needs)
+    (λ c. search needs)
+    (λ c. search needs)
+    (λ c κs. search needs)
     tell-requires
-    same-length
+    (λ c. search needs)
     returns-2)

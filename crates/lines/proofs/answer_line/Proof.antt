@@ -19,50 +19,17 @@ inside c = said-inside (c .before .before .before .before .before .before .parse
 returns : tie.Need-returns
 returns c = let h : longest < length (c .before .before .before .args .line .now) = omega arith in answer-long _ _ h
 
-slice-aggregate-parse-request : tie.Need-slice-aggregate-parse-request
-slice-aggregate-parse-request c = search needs
-
-slice-aggregate-parse-request-2 : tie.Need-slice-aggregate-parse-request-2
-slice-aggregate-parse-request-2 c = search needs
-
-slice-aggregate-parse-request-3 : tie.Need-slice-aggregate-parse-request-3
-slice-aggregate-parse-request-3 c = search needs
-
 parse-request-requires : tie.Need-parse-request-requires
 parse-request-requires c κs = (omega arith, omega arith, omega arith)
-
-enum-known-parsed : tie.Need-enum-known-parsed
-enum-known-parsed c = search needs
-
-enum-told : tie.Need-enum-told
-enum-told c = search needs
 
 returns-2 : tie.Need-returns-2
 returns-2 c = answer-malformed _ _ (c .before .before .before .before .before .before .before .before .before .if1 .left) (c .before .before .before .before .before .parse-request .ensures) (c .enum-told .given .1)
 
-sub-answer-request : tie.Need-sub-answer-request
-sub-answer-request c = search needs
-
-part-answer-request-start : tie.Need-part-answer-request-start
-part-answer-request-start c = search needs
-
 part-answer-request-end : tie.Need-part-answer-request-end
 part-answer-request-end c = inside (c .before) .0
 
-sub-answer-request-2 : tie.Need-sub-answer-request-2
-sub-answer-request-2 c = search needs
-
-part-answer-request-start-2 : tie.Need-part-answer-request-start-2
-part-answer-request-start-2 c = search needs
-
 part-answer-request-end-2 : tie.Need-part-answer-request-end-2
 part-answer-request-end-2 c = inside (c .before .before .before) .1
-
-sub-answer-request-3 : tie.Need-sub-answer-request-3
-sub-answer-request-3 c = search needs
-
-part-answer-request-start-3 : tie.Need-part-answer-request-start-3
-part-answer-request-start-3 c = search needs
 
 part-answer-request-end-3 : tie.Need-part-answer-request-end-3
 part-answer-request-end-3 c = inside (c .before .before .before .before .before) .2
@@ -81,21 +48,21 @@ answer-line-spec =
     tie.close
     (tie.spec
     returns
-    slice-aggregate-parse-request
-    slice-aggregate-parse-request-2
-    slice-aggregate-parse-request-3
+    (λ c. search needs)
+    (λ c. search needs)
+    (λ c. search needs)
     parse-request-requires
-    enum-known-parsed
-    enum-told
+    (λ c. search needs)
+    (λ c. search needs)
     returns-2
-    sub-answer-request
-    part-answer-request-start
+    (λ c. search needs)
+    (λ c. search needs)
     part-answer-request-end
-    sub-answer-request-2
-    part-answer-request-start-2
+    (λ c. search needs)
+    (λ c. search needs)
     part-answer-request-end-2
-    sub-answer-request-3
-    part-answer-request-start-3
+    (λ c. search needs)
+    (λ c. search needs)
     part-answer-request-end-3
     answer-request-requires
     returns-3)

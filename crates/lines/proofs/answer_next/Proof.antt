@@ -10,9 +10,6 @@ use Rattle.lines.proofs.answer_next.Tie as tie
 continue-line-requires : tie.Need-continue-line-requires
 continue-line-requires c κs = let r = c .before .before .before .before .before .pre .1 .0 in (r .held-in, r .at-in)
 
-same-length : tie.Need-same-length
-same-length c = search needs
-
 returns : tie.Need-returns
 returns c = let s = c .before .before .before .before .before .before .before .before .before in
     let k = c .before .before .before .continue-line in (
@@ -22,12 +19,6 @@ returns c = let s = c .before .before .before .before .before .before .before .b
 
 add-number : tie.Need-add-number
 add-number c = omega (arith, c .before .before .before .before .before .before .before .before .before .before .pre .1 .1)
-
-sub-answer-line : tie.Need-sub-answer-line
-sub-answer-line c = search needs
-
-part-answer-line-start : tie.Need-part-answer-line-start
-part-answer-line-start c = search needs
 
 part-answer-line-end : tie.Need-part-answer-line-end
 part-answer-line-end c = let k = c .before .before .before .before .before .continue-line in omega (arith, k .ensures .holds-in, k .kept .0)
@@ -44,12 +35,6 @@ add-t18 c =
     let k = t .before .before .before in
     omega (arith, k .continue-line .ensures .ends-in, t .if1 .left, k .before .before .before .before .before .before .good)
 
-same-length-2 : tie.Need-same-length-2
-same-length-2 c = search needs
-
-same-length-3 : tie.Need-same-length-3
-same-length-3 c = search needs
-
 returns-2 : tie.Need-returns-2
 returns-2 c = let s = c .before .before .before .before .before .before .before .before .before .before .before .before .before .before .before .before .before in
     let k = c .before .before .before .before .before .before .before .before .before .before .before .continue-line in
@@ -65,15 +50,15 @@ answer-next-spec =
     tie.close
     (tie.spec
     continue-line-requires
-    same-length
+    (λ c. search needs)
     returns
     add-number
-    sub-answer-line
-    part-answer-line-start
+    (λ c. search needs)
+    (λ c. search needs)
     part-answer-line-end
     answer-line-requires
     tell-requires
     add-t18
-    same-length-2
-    same-length-3
+    (λ c. search needs)
+    (λ c. search needs)
     returns-2)

@@ -49,12 +49,6 @@ bytes c = c .spell .last .1 .0
 parts-below : (c : tie.After-spell) (i : ℕ) → getD (parts c) i 0 < 4294967296
 parts-below c i = omega (arith, c .before .before .before .before .shared-slice-known4 .given i)
 
-in-range-requires : tie.Need-in-range-requires
-in-range-requires c κs = search needs
-
-answer-number-requires : tie.Need-answer-number-requires
-answer-number-requires c κs = search needs
-
 returns : tie.Need-returns
 returns c = let r = c .before .before in
     c .answer-number .ensures ∙ sym (rw (illegal (c .before)))
@@ -65,20 +59,11 @@ spell-requires c κs = (few (c .before), refl)
 mul-n : tie.Need-mul-n
 mul-n c = omega (arith, few (c .before .before))
 
-sub-decide : tie.Need-sub-decide
-sub-decide c = search needs
-
-part-decide-start : tie.Need-part-decide-start
-part-decide-start c = search needs
-
 part-decide-end : tie.Need-part-decide-end
 part-decide-end c = let l = c .before in spelt-room (parts l) (parts-below l) (bytes l) (l .spell .ensures)
 
 decide-requires : tie.Need-decide-requires
 decide-requires c κs = start (c .before .before .before .before .before) .pre
-
-answer-number-requires-2 : tie.Need-answer-number-requires-2
-answer-number-requires-2 c κs = search needs
 
 returns-2 : tie.Need-returns-2
 returns-2 c = let d = c .before in
@@ -92,14 +77,14 @@ pub answer-request-spec : {M : Type 1} → statement M
 answer-request-spec =
     tie.close
     (tie.spec
-    in-range-requires
-    answer-number-requires
+    (λ c κs. search needs)
+    (λ c κs. search needs)
     returns
     spell-requires
     mul-n
-    sub-decide
-    part-decide-start
+    (λ c. search needs)
+    (λ c. search needs)
     part-decide-end
     decide-requires
-    answer-number-requires-2
+    (λ c κs. search needs)
     returns-2)

@@ -17,15 +17,6 @@ cut : (c : tie.After-known-told) →
     Cuts (Six (p .0) (p .1 .0) (p .1 .1 .0) (p .1 .1 .1 .0) (p .1 .1 .1 .1 .0)) (c .before .before .before .before .before .before .before .before .args .line .now)
 cut c = rw (c .before .a .given .1) at (c .before .before .before .six-words .ensures)
 
-six-words-requires : tie.Need-six-words-requires
-six-words-requires c κs = search needs
-
-enum-known-a : tie.Need-enum-known-a
-enum-known-a c = search needs
-
-enum-told : tie.Need-enum-told
-enum-told c = search needs
-
 returns : tie.Need-returns
 returns c = let e : eqb (length (words (c .before .before .before .before .before .before .before .args .line .now))) 6 ≡ false = rw (c .enum-told .given .1) at (c .before .before .six-words .ensures) in
     record { is = sym (request-other _ e); inside = tt }
@@ -44,12 +35,6 @@ add-context-at c = let k = cut c in omega arith
 
 add-variable-at : tie.Need-add-variable-at
 add-variable-at c = let k = cut c in omega arith
-
-sub-parse-words : tie.Need-sub-parse-words
-sub-parse-words c = search needs
-
-part-parse-words-start : tie.Need-part-parse-words-start
-part-parse-words-start c = search needs
 
 part-parse-words-end : tie.Need-part-parse-words-end
 part-parse-words-end c = let k = cut c in omega arith
@@ -96,21 +81,9 @@ sub-parse-words-6 c = let k = cut (c .before .before .before .before .before) in
 part-parse-words-start-6 : tie.Need-part-parse-words-start-6
 part-parse-words-start-6 c = let k = cut (c .before .before .before .before .before) in omega arith
 
-part-parse-words-end-6 : tie.Need-part-parse-words-end-6
-part-parse-words-end-6 c = search needs
-
 parse-words-requires : tie.Need-parse-words-requires
 parse-words-requires c κs = let k = c .before .before .before .before .before .before .before .before .before .before .before .before .before .before .before .before .before .pre in
     (simp (length-take, length-drop) (omega (arith, k .0)), simp (length-take, length-drop) (omega (arith, k .1)), simp (length-take, length-drop) (omega (arith, k .2)))
-
-same-length : tie.Need-same-length
-same-length c = search needs
-
-same-length-2 : tie.Need-same-length-2
-same-length-2 c = search needs
-
-same-length-3 : tie.Need-same-length-3
-same-length-3 c = search needs
 
 returns-2 : tie.Need-returns-2
 returns-2 c =
@@ -122,17 +95,17 @@ pub parse-request-spec : {M : Type 1} → statement M
 parse-request-spec =
     tie.close
     (tie.spec
-    six-words-requires
-    enum-known-a
-    enum-told
+    (λ c κs. search needs)
+    (λ c. search needs)
+    (λ c. search needs)
     returns
     add-level-at
     add-kind-at
     add-name-at
     add-context-at
     add-variable-at
-    sub-parse-words
-    part-parse-words-start
+    (λ c. search needs)
+    (λ c. search needs)
     part-parse-words-end
     sub-parse-words-2
     part-parse-words-start-2
@@ -148,9 +121,9 @@ parse-request-spec =
     part-parse-words-end-5
     sub-parse-words-6
     part-parse-words-start-6
-    part-parse-words-end-6
+    (λ c. search needs)
     parse-words-requires
-    same-length
-    same-length-2
-    same-length-3
+    (λ c. search needs)
+    (λ c. search needs)
+    (λ c. search needs)
     returns-2)

@@ -49,40 +49,13 @@ context-is : (c : tie.After-known-told5) → let h = c .before .before .before .
     hexOctets (start4 (to4 c) .args .c .now) ≡ some (take (c .before .contexts .given .0 .0) (h .hex-octets2 .last .1 .0))
 context-is c = let h = c .before .before .before .before .before in filled-is (h .hex-octets2 .ensures) _ (c .before .contexts .given .1)
 
-decimal-requires : tie.Need-decimal-requires
-decimal-requires c κs = search needs
-
-enum-known-model : tie.Need-enum-known-model
-enum-known-model c = search needs
-
-enum-told : tie.Need-enum-told
-enum-told c = search needs
-
 returns : tie.Need-returns
 unfolding requestOf bind
 returns c = let e = number-bad (c .enum-told .given .1) (c .before .before .decimal .ensures) in record { is = sym (rw e); inside = tt }
 
-decimal-requires-2 : tie.Need-decimal-requires-2
-decimal-requires-2 c κs = search needs
-
-enum-known-level : tie.Need-enum-known-level
-enum-known-level c = search needs
-
-enum-told-2 : tie.Need-enum-told-2
-enum-told-2 c = search needs
-
 returns-2 : tie.Need-returns-2
 unfolding requestOf bind
 returns-2 c = let e = number-bad (c .enum-told2 .given .1) (c .before .before .decimal2 .ensures) in record { is = sym (rw (model-is (c .before .before .before), e)); inside = tt }
-
-decimal-requires-3 : tie.Need-decimal-requires-3
-decimal-requires-3 c κs = search needs
-
-enum-known-kind : tie.Need-enum-known-kind
-enum-known-kind c = search needs
-
-enum-told-3 : tie.Need-enum-told-3
-enum-told-3 c = search needs
 
 returns-3 : tie.Need-returns-3
 unfolding requestOf bind
@@ -90,39 +63,12 @@ returns-3 c = let e = number-bad (c .enum-told3 .given .1) (c .before .before .d
     let d = c .before .before .before in
     record { is = sym (rw (model-is (to1 d), level-is d, e)); inside = tt }
 
-hex-octets-requires : tie.Need-hex-octets-requires
-hex-octets-requires c κs = search needs
-
-enum-known-names : tie.Need-enum-known-names
-enum-known-names c = search needs
-
-enum-told-4 : tie.Need-enum-told-4
-enum-told-4 c = search needs
-
-same-length : tie.Need-same-length
-same-length c = search needs
-
 returns-4 : tie.Need-returns-4
 unfolding requestOf bind
 returns-4 c = let h = c .before .before .before .before in
     let e = filled-bad (h .hex-octets .ensures) (c .enum-told4 .given .1) in
     let d = h .before .before in
     record { is = sym (rw (model-is (to1 (to2 d)), level-is (to2 d), kind-is d, e)); inside = tt }
-
-hex-octets-requires-2 : tie.Need-hex-octets-requires-2
-hex-octets-requires-2 c κs = search needs
-
-enum-known-contexts : tie.Need-enum-known-contexts
-enum-known-contexts c = search needs
-
-enum-told-5 : tie.Need-enum-told-5
-enum-told-5 c = search needs
-
-same-length-2 : tie.Need-same-length-2
-same-length-2 c = search needs
-
-same-length-3 : tie.Need-same-length-3
-same-length-3 c = search needs
 
 returns-5 : tie.Need-returns-5
 unfolding requestOf bind
@@ -135,21 +81,6 @@ returns-5 c = let h = c .before .before .before .before in
 dotted-requires : tie.Need-dotted-requires
 dotted-requires c κs = start4 (to4 (c .before)) .pre .2
 
-enum-known-variables : tie.Need-enum-known-variables
-enum-known-variables c = search needs
-
-enum-told-6 : tie.Need-enum-told-6
-enum-told-6 c = search needs
-
-same-length-4 : tie.Need-same-length-4
-same-length-4 c = search needs
-
-same-length-5 : tie.Need-same-length-5
-same-length-5 c = search needs
-
-same-length-6 : tie.Need-same-length-6
-same-length-6 c = search needs
-
 returns-6 : tie.Need-returns-6
 unfolding requestOf bind
 returns-6 c = let h = c .before .before .before .before in
@@ -158,15 +89,6 @@ returns-6 c = let h = c .before .before .before .before in
     let n = to4 d in
     let k = to3 n in
     record { is = sym (rw (model-is (to1 (to2 k)), level-is (to2 k), kind-is k, name-is n, context-is d, e)); inside = tt }
-
-same-length-7 : tie.Need-same-length-7
-same-length-7 c = search needs
-
-same-length-8 : tie.Need-same-length-8
-same-length-8 c = search needs
-
-same-length-9 : tie.Need-same-length-9
-same-length-9 c = search needs
 
 returns-7 : tie.Need-returns-7
 unfolding requestOf bind
@@ -190,37 +112,37 @@ pub parse-words-spec : {M : Type 1} → statement M
 parse-words-spec =
     tie.close
     (tie.spec
-    decimal-requires
-    enum-known-model
-    enum-told
+    (λ c κs. search needs)
+    (λ c. search needs)
+    (λ c. search needs)
     returns
-    decimal-requires-2
-    enum-known-level
-    enum-told-2
+    (λ c κs. search needs)
+    (λ c. search needs)
+    (λ c. search needs)
     returns-2
-    decimal-requires-3
-    enum-known-kind
-    enum-told-3
+    (λ c κs. search needs)
+    (λ c. search needs)
+    (λ c. search needs)
     returns-3
-    hex-octets-requires
-    enum-known-names
-    enum-told-4
-    same-length
+    (λ c κs. search needs)
+    (λ c. search needs)
+    (λ c. search needs)
+    (λ c. search needs)
     returns-4
-    hex-octets-requires-2
-    enum-known-contexts
-    enum-told-5
-    same-length-2
-    same-length-3
+    (λ c κs. search needs)
+    (λ c. search needs)
+    (λ c. search needs)
+    (λ c. search needs)
+    (λ c. search needs)
     returns-5
     dotted-requires
-    enum-known-variables
-    enum-told-6
-    same-length-4
-    same-length-5
-    same-length-6
+    (λ c. search needs)
+    (λ c. search needs)
+    (λ c. search needs)
+    (λ c. search needs)
+    (λ c. search needs)
     returns-6
-    same-length-7
-    same-length-8
-    same-length-9
+    (λ c. search needs)
+    (λ c. search needs)
+    (λ c. search needs)
     returns-7)

@@ -10,26 +10,11 @@ use Rattle.lines.proofs.put_number.Tie as tie
 few : (c : tie.After-decimal) → c .decimal .result ≤ 20
 few c = let s = c .before .before .before in digits-few _ (s .args .n) (s .fits .n .fits) (c .decimal .ensures .1 .0)
 
-decimal-requires : tie.Need-decimal-requires
-decimal-requires c κs = search needs
-
-sub-copy-in : tie.Need-sub-copy-in
-sub-copy-in c = search needs
-
-part-copy-in-start : tie.Need-part-copy-in-start
-part-copy-in-start c = search needs
-
-part-copy-in-end : tie.Need-part-copy-in-end
-part-copy-in-end c = search needs
-
 copy-in-requires : tie.Need-copy-in-requires
 copy-in-requires c κs = let d = c .before .before .before in let z : d .decimal .result - 0 ≡ d .decimal .result = omega arith in rw (z, ← d .decimal .ensures .0 .1) (omega (arith, few d))
 
 add-result : tie.Need-add-result
 add-result c = omega (arith, few (c .before .before .before .before .before .before))
-
-same-length : tie.Need-same-length
-same-length c = search needs
 
 returns : tie.Need-returns
 returns c = let d = c .before .before .before .before .before .before in
@@ -41,11 +26,11 @@ pub put-number-spec : {M : Type 1} → statement M
 put-number-spec =
     tie.close
     (tie.spec
-    decimal-requires
-    sub-copy-in
-    part-copy-in-start
-    part-copy-in-end
+    (λ c κs. search needs)
+    (λ c. search needs)
+    (λ c. search needs)
+    (λ c. search needs)
     copy-in-requires
     add-result
-    same-length
+    (λ c. search needs)
     returns)

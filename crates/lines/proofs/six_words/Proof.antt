@@ -73,53 +73,20 @@ words5 : (c : tie.Else5) →
     ∷ words (drop (c .before .word-end5 .result + 1) l)
 words5 c = words-next (_ ∷ _ ∷ _ ∷ _ ∷ []) (line5 (c .before)) _ _ (words4 (c .before .before)) (c .before .word-end5 .ensures .0) (omega arith)
 
-word-end-requires : tie.Need-word-end-requires
-word-end-requires c κs = search needs
-
 returns : tie.Need-returns
 returns c = let l = line1 (c .before) in words-few [] l 0 _ refl (c .before .word-end .ensures .0) (omega arith) (omega arith)
-
-add-word-end : tie.Need-add-word-end
-add-word-end c = search needs
-
-word-end-requires-2 : tie.Need-word-end-requires-2
-word-end-requires-2 c κs = search needs
 
 returns-2 : tie.Need-returns-2
 returns-2 c = let d = c .before .before in words-few (_ ∷ []) (line1 (d .before)) _ _ (words1 d) (c .before .word-end2 .ensures .0) (omega arith) (omega arith)
 
-add-word-end-2 : tie.Need-add-word-end-2
-add-word-end-2 c = search needs
-
-word-end-requires-3 : tie.Need-word-end-requires-3
-word-end-requires-3 c κs = search needs
-
 returns-3 : tie.Need-returns-3
 returns-3 c = let d = c .before .before in words-few (_ ∷ _ ∷ []) (line2 (d .before)) _ _ (words2 d) (c .before .word-end3 .ensures .0) (omega arith) (omega arith)
-
-add-word-end-3 : tie.Need-add-word-end-3
-add-word-end-3 c = search needs
-
-word-end-requires-4 : tie.Need-word-end-requires-4
-word-end-requires-4 c κs = search needs
 
 returns-4 : tie.Need-returns-4
 returns-4 c = let d = c .before .before in words-few (_ ∷ _ ∷ _ ∷ []) (line3 (d .before)) _ _ (words3 d) (c .before .word-end4 .ensures .0) (omega arith) (omega arith)
 
-add-word-end-4 : tie.Need-add-word-end-4
-add-word-end-4 c = search needs
-
-word-end-requires-5 : tie.Need-word-end-requires-5
-word-end-requires-5 c κs = search needs
-
 returns-5 : tie.Need-returns-5
 returns-5 c = let d = c .before .before in words-few (_ ∷ _ ∷ _ ∷ _ ∷ []) (line4 (d .before)) _ _ (words4 d) (c .before .word-end5 .ensures .0) (omega arith) (omega arith)
-
-add-word-end-5 : tie.Need-add-word-end-5
-add-word-end-5 c = search needs
-
-word-end-requires-6 : tie.Need-word-end-requires-6
-word-end-requires-6 c κs = search needs
 
 returns-6 : tie.Need-returns-6
 returns-6 c = let d = c .before .before in
@@ -138,21 +105,21 @@ pub six-words-spec : {M : Type 1} → statement M
 six-words-spec =
     tie.close
     (tie.spec
-    word-end-requires
+    (λ c κs. search needs)
     returns
-    add-word-end
-    word-end-requires-2
+    (λ c. search needs)
+    (λ c κs. search needs)
     returns-2
-    add-word-end-2
-    word-end-requires-3
+    (λ c. search needs)
+    (λ c κs. search needs)
     returns-3
-    add-word-end-3
-    word-end-requires-4
+    (λ c. search needs)
+    (λ c κs. search needs)
     returns-4
-    add-word-end-4
-    word-end-requires-5
+    (λ c. search needs)
+    (λ c κs. search needs)
     returns-5
-    add-word-end-5
-    word-end-requires-6
+    (λ c. search needs)
+    (λ c κs. search needs)
     returns-6
     returns-7)

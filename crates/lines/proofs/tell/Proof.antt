@@ -10,23 +10,11 @@ use Rattle.lines.proofs.tell.Tie as tie
 second : (c : tie.After-put-number2) → length (c .put-number2 .last .0) ≡ length (c .before .before .before .before .before .before .before .args .out .now)
 second c = c .put-number2 .kept .0 ∙ length-set (c .before .before .before .before .put-number .last .0) _ _ ∙ c .before .before .before .before .put-number .kept .0
 
-put-number-requires : tie.Need-put-number-requires
-put-number-requires c κs = search needs
-
-slice-write-out : tie.Need-slice-write-out
-slice-write-out c = search needs
-
-add-put-number : tie.Need-add-put-number
-add-put-number c = search needs
-
 put-number-requires-2 : tie.Need-put-number-requires-2
 put-number-requires-2 c κs = simp length-set (omega arith)
 
 slice-write-out-2 : tie.Need-slice-write-out-2
 slice-write-out-2 c = omega (arith, second (c .before .before))
-
-add-result : tie.Need-add-result
-add-result c = search needs
 
 same-length : tie.Need-same-length
 same-length c = length-set (c .before .before .put-number2 .last .0) _ _ ∙ second (c .before .before)
@@ -46,11 +34,11 @@ pub tell-spec : {M : Type 1} → statement M
 tell-spec =
     tie.close
     (tie.spec
-    put-number-requires
-    slice-write-out
-    add-put-number
+    (λ c κs. search needs)
+    (λ c. search needs)
+    (λ c. search needs)
     put-number-requires-2
     slice-write-out-2
-    add-result
+    (λ c. search needs)
     same-length
     returns)

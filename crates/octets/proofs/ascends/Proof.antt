@@ -17,25 +17,10 @@ Inv-loop a b n i₀ i = (i ≤ n) × (take i a ≡ take i b)
 abbrev μ-loop : tie.MeasureT-loop
 μ-loop a b n i₀ i = n - i
 
-shorter-requires : tie.Need-shorter-requires Inv-loop μ-loop
-shorter-requires c κs = search needs
-
-skip-long-requires : tie.Need-skip-long-requires Inv-loop μ-loop
-skip-long-requires c κs = search needs
-
 skip-requires : tie.Need-skip-requires Inv-loop μ-loop
 skip-requires c κs =
     let e = c .skip-long .ensures in
     (omega arith, (omega arith, (omega arith, e .1)))
-
-sub-if1 : tie.Need-sub-if1 Inv-loop μ-loop
-sub-if1 c = search needs
-
-four-at-requires : tie.Need-four-at-requires Inv-loop μ-loop
-four-at-requires c κs = search needs
-
-four-at-requires-2 : tie.Need-four-at-requires-2 Inv-loop μ-loop
-four-at-requires-2 c κs = search needs
 
 returns : tie.Need-returns Inv-loop μ-loop
 returns c =
@@ -51,9 +36,6 @@ returns c =
     (λ i. omega (arith, k .before .shared-slice-known .given i))
     (λ i. omega (arith, k .shared-slice-known2 .given i))
     (λ q. c .if2 .taken (e ∙ q ∙ sym g))))
-
-add-i : tie.Need-add-i Inv-loop μ-loop
-add-i c = search needs
 
 loop-holds : tie.Need-loop-holds Inv-loop μ-loop
 loop-holds c =
@@ -71,22 +53,10 @@ loop-holds c =
     (λ u. rw (u .1) (f .skip .ensures))
     (c .if1 .came)
 
-shared-slice-read-x : tie.Need-shared-slice-read-x Inv-loop μ-loop
-shared-slice-read-x c = search needs
-
-shared-slice-read-y : tie.Need-shared-slice-read-y Inv-loop μ-loop
-shared-slice-read-y c = search needs
-
 returns-2 : tie.Need-returns-2 Inv-loop μ-loop
 returns-2 c =
     let l = c .before .before .before .before .loop in
     sym (before-differ _ _ (l .i) (l .inv .1) (omega arith) (omega arith) (c .if3 .taken))
-
-add-i-2 : tie.Need-add-i-2 Inv-loop μ-loop
-add-i-2 c = search needs
-
-loop-less : tie.Need-loop-less Inv-loop μ-loop
-loop-less c = search needs
 
 loop-again : tie.Need-loop-again Inv-loop μ-loop
 loop-again c =
@@ -104,19 +74,19 @@ ascends-spec =
     (tie.spec
     Inv-loop
     μ-loop
-    shorter-requires
-    skip-long-requires
+    (λ c κs. search needs)
+    (λ c κs. search needs)
     skip-requires
-    sub-if1
-    four-at-requires
-    four-at-requires-2
+    (λ c. search needs)
+    (λ c κs. search needs)
+    (λ c κs. search needs)
     returns
-    add-i
+    (λ c. search needs)
     loop-holds
-    shared-slice-read-x
-    shared-slice-read-y
+    (λ c. search needs)
+    (λ c. search needs)
     returns-2
-    add-i-2
-    loop-less
+    (λ c. search needs)
+    (λ c. search needs)
     loop-again
     returns-3)

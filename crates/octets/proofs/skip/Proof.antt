@@ -17,33 +17,12 @@ Inv-loop a b from n i₀ i = (i ≤ n) × (take i a ≡ take i b)
 abbrev μ-loop : tie.MeasureT-loop
 μ-loop a b from n i₀ i = n - i
 
-loop-holds : tie.Need-loop-holds Inv-loop μ-loop
-loop-holds c = search needs
-
-sub-loop : tie.Need-sub-loop Inv-loop μ-loop
-sub-loop c = search needs
-
-same-eight-requires : tie.Need-same-eight-requires Inv-loop μ-loop
-same-eight-requires c κs = search needs
-
-returns : tie.Need-returns Inv-loop μ-loop
-returns c = search needs
-
-add-i : tie.Need-add-i Inv-loop μ-loop
-add-i c = search needs
-
-loop-less : tie.Need-loop-less Inv-loop μ-loop
-loop-less c = search needs
-
 loop-again : tie.Need-loop-again Inv-loop μ-loop
 loop-again c =
     let t = c .before in
     let l = t .before .before .loop in
     (omega arith, take-eight _ _ (l .i) (omega arith) (omega arith) (l .inv .1) (sym (t .same-eight .ensures) ∙ not-false _ (c .if1 .left)))
 
-returns-2 : tie.Need-returns-2 Inv-loop μ-loop
-returns-2 c = search needs
-
 pub skip-spec : {M : Type 1} → statement M
 skip-spec =
-    tie.close (tie.spec Inv-loop μ-loop loop-holds sub-loop same-eight-requires returns add-i loop-less loop-again returns-2)
+    tie.close (tie.spec Inv-loop μ-loop (λ c. search needs) (λ c. search needs) (λ c κs. search needs) (λ c. search needs) (λ c. search needs) (λ c. search needs) loop-again (λ c. search needs))

@@ -17,42 +17,6 @@ Inv-loop a b n i₀ i = (i ≤ n) × (take i a ≡ take i b)
 abbrev μ-loop : tie.MeasureT-loop
 μ-loop a b n i₀ i = n - i
 
-loop-holds : tie.Need-loop-holds Inv-loop μ-loop
-loop-holds c = search needs
-
-sub-loop : tie.Need-sub-loop Inv-loop μ-loop
-sub-loop c = search needs
-
-same-eight-requires : tie.Need-same-eight-requires Inv-loop μ-loop
-same-eight-requires c κs = search needs
-
-add-same-eight : tie.Need-add-same-eight Inv-loop μ-loop
-add-same-eight c = search needs
-
-same-eight-requires-2 : tie.Need-same-eight-requires-2 Inv-loop μ-loop
-same-eight-requires-2 c κs = search needs
-
-add-same-eight-2 : tie.Need-add-same-eight-2 Inv-loop μ-loop
-add-same-eight-2 c = search needs
-
-same-eight-requires-3 : tie.Need-same-eight-requires-3 Inv-loop μ-loop
-same-eight-requires-3 c κs = search needs
-
-add-same-eight-3 : tie.Need-add-same-eight-3 Inv-loop μ-loop
-add-same-eight-3 c = search needs
-
-same-eight-requires-4 : tie.Need-same-eight-requires-4 Inv-loop μ-loop
-same-eight-requires-4 c κs = search needs
-
-returns : tie.Need-returns Inv-loop μ-loop
-returns c = search needs
-
-add-i : tie.Need-add-i Inv-loop μ-loop
-add-i c = search needs
-
-loop-less : tie.Need-loop-less Inv-loop μ-loop
-loop-less c = search needs
-
 loop-again : tie.Need-loop-again Inv-loop μ-loop
 loop-again c =
     let e3 = c .before .before in
@@ -60,26 +24,23 @@ loop-again c =
     let l = e1 .before .before .loop in
     (omega arith, take-four-eights _ _ (l .i) (omega arith) (omega arith) (l .inv .1) (e1 .same-eight .ensures) (e3 .before .same-eight2 .ensures) (e3 .same-eight3 .ensures) (c .before .same-eight4 .ensures) (not-false _ (c .if1 .left)))
 
-returns-2 : tie.Need-returns-2 Inv-loop μ-loop
-returns-2 c = search needs
-
 pub skip-long-spec : {M : Type 1} → statement M
 skip-long-spec =
     tie.close
     (tie.spec
     Inv-loop
     μ-loop
-    loop-holds
-    sub-loop
-    same-eight-requires
-    add-same-eight
-    same-eight-requires-2
-    add-same-eight-2
-    same-eight-requires-3
-    add-same-eight-3
-    same-eight-requires-4
-    returns
-    add-i
-    loop-less
+    (λ c. search needs)
+    (λ c. search needs)
+    (λ c κs. search needs)
+    (λ c. search needs)
+    (λ c κs. search needs)
+    (λ c. search needs)
+    (λ c κs. search needs)
+    (λ c. search needs)
+    (λ c κs. search needs)
+    (λ c. search needs)
+    (λ c. search needs)
+    (λ c. search needs)
     loop-again
-    returns-2)
+    (λ c. search needs))

@@ -27,12 +27,6 @@ returns c =
     let s = c .before .before .before .before in
     sym (agrees-short _ 0 _ _ (omega (arith, length-identifier (s .args .subtree .now), length-identifier (s .args .variable .now))))
 
-same-word-requires : tie.Need-same-word-requires Inv-loop μ-loop
-same-word-requires c κs = search needs
-
-mask-bit-requires : tie.Need-mask-bit-requires Inv-loop μ-loop
-mask-bit-requires c κs = search needs
-
 returns-2 : tie.Need-returns-2 Inv-loop μ-loop
 returns-2 c =
     let t = c .before .before .before in
@@ -50,27 +44,12 @@ loop-holds c =
     let f = c .skip in
     (refl, agrees-skip _ _ _ (f .result) (omega arith) (omega arith) (f .ensures .1))
 
-same-word-requires-2 : tie.Need-same-word-requires-2 Inv-loop μ-loop
-same-word-requires-2 c κs = search needs
-
-mask-bit-requires-2 : tie.Need-mask-bit-requires-2 Inv-loop μ-loop
-mask-bit-requires-2 c κs = search needs
-
 returns-3 : tie.Need-returns-3 Inv-loop μ-loop
 returns-3 c =
     let t = c .before .before .before in
     let l = t .before .before .loop in
     let d = sym (t .same-word2 .ensures) ∙ not-true _ (c .before .before .if5 .taken) in
     sym (l .inv .1 ∙ agrees-differ _ _ _ (l .i) (l .k) (omega arith) (omega arith) d (sym (c .before .mask-bit2 .ensures) ∙ c .if6 .taken))
-
-add-i : tie.Need-add-i Inv-loop μ-loop
-add-i c = search needs
-
-add-k : tie.Need-add-k Inv-loop μ-loop
-add-k c = search needs
-
-loop-less : tie.Need-loop-less Inv-loop μ-loop
-loop-less c = search needs
 
 loop-again : tie.Need-loop-again Inv-loop μ-loop
 loop-again c =
@@ -94,17 +73,17 @@ is-below-spec =
     Inv-loop
     μ-loop
     returns
-    same-word-requires
-    mask-bit-requires
+    (λ c κs. search needs)
+    (λ c κs. search needs)
     returns-2
     skip-requires
     mul-k
     loop-holds
-    same-word-requires-2
-    mask-bit-requires-2
+    (λ c κs. search needs)
+    (λ c κs. search needs)
     returns-3
-    add-i
-    add-k
-    loop-less
+    (λ c. search needs)
+    (λ c. search needs)
+    (λ c. search needs)
     loop-again
     returns-4)

@@ -12,13 +12,13 @@ use Rattle.procedure.proofs.maps_principal.Tie as tie
 whole : (c : tie.Start) → MappingAt (c .args .row .now) (past (c .args .row .now) 4)
 whole c = mapping-at _ _ refl (c .pre)
 
-word-at-requires : tie.Need-word-at-requires
-word-at-requires c κs = whole (c .before .before) .model
+quad-at-requires : tie.Need-quad-at-requires
+quad-at-requires c κs = whole (c .before .before) .model
 
 returns : tie.Need-returns
 returns c =
     let s = c .before .before .before .before in
-    maps-model _ _ _ (λ e. c .if1 .taken (c .before .word-at .ensures .0 ∙ e)) ∙ sym (ap (mapsPrincipal (s .args .model) (s .args .name .now)) (whole s .holds))
+    maps-model _ _ _ (λ e. c .if1 .taken (c .before .quad-at .ensures .0 ∙ e)) ∙ sym (ap (mapsPrincipal (s .args .model) (s .args .name .now)) (whole s .holds))
 
 is-name-requires : tie.Need-is-name-requires
 is-name-requires c κs = whole (c .before .before .before .before) .name
@@ -37,10 +37,10 @@ returns-3 c =
     let m = n .before .before in
     let s = m .before .before .before in
     c .is-active .ensures
-    ∙ maps-status _ _ _ (sym (m .word-at .ensures .0) ∙ n .before .if1 .left) (sym (n .is-name .ensures) ∙ not-false _ (c .before .if2 .left))
+    ∙ maps-status _ _ _ (sym (m .quad-at .ensures .0) ∙ n .before .if1 .left) (sym (n .is-name .ensures) ∙ not-false _ (c .before .if2 .left))
     ∙ sym (ap (mapsPrincipal (s .args .model) (s .args .name .now)) (whole s .holds))
 
 pub maps-principal-spec : {M : Type 1} → statement M
 maps-principal-spec =
     tie.close
-    (tie.spec word-at-requires returns is-name-requires returns-2 is-active-requires returns-3)
+    (tie.spec quad-at-requires returns is-name-requires returns-2 is-active-requires returns-3)

@@ -68,9 +68,6 @@ after-requires c κs = whole (c .before .before .before .before .before .before 
 after-requires-2 : tie.Need-after-requires-2
 after-requires-2 c κs = access-from _ _ _ (c .after .ensures .0) refl (c .before .before .before .before .before .before .before .before .pre) .prefix
 
-add-fits : tie.Need-add-fits
-add-fits c = search needs
-
 fits-requires : tie.Need-fits-requires
 fits-requires c κs = let l = places c in (l .prefix, omega (arith, l .read))
 
@@ -78,43 +75,22 @@ returns-3 : tie.Need-returns-3
 returns-3 c =
     rank-context _ _ _ _ _ (sym (c .before .fits2 .ensures) ∙ not-true _ (c .if3 .taken)) ∙ sym (ap (rankOf _ _ _ _) (places (c .before .before) .holds))
 
-add-wide : tie.Need-add-wide
-add-wide c = search needs
-
 shared-slice-read-wide : tie.Need-shared-slice-read-wide
 shared-slice-read-wide c = omega (arith, places (c .before .before .before) .read)
-
-wide-requires : tie.Need-wide-requires
-wide-requires c κs = search needs
 
 returns-4 : tie.Need-returns-4
 returns-4 c =
     rank-level _ _ _ _ _ (rw (c .before .wide .ensures .0) at (c .if4 .taken)) ∙ sym (ap (rankOf _ _ _ _) (places (c .before .before .before .before .before) .holds))
 
-word-at-requires : tie.Need-word-at-requires
-word-at-requires c κs = omega (arith, places (c .before .before .before .before .before) .read)
-
-shared-slice-read-wide-2 : tie.Need-shared-slice-read-wide-2
-shared-slice-read-wide-2 c = search needs
-
-wide-requires-2 : tie.Need-wide-requires-2
-wide-requires-2 c κs = search needs
-
-mul-base : tie.Need-mul-base
-mul-base c = search needs
-
-add-base : tie.Need-add-base
-add-base c = search needs
+quad-at-requires : tie.Need-quad-at-requires
+quad-at-requires c κs = omega (arith, places (c .before .before .before .before .before) .read)
 
 returns-5 : tie.Need-returns-5
 returns-5 c =
     let i = c .before .before .before .before in
     let t = passed (i .before .before .before) in
     base (c .before) ∙ rank-any _ _ _ _ _ (t .0) (t .1) (t .2) (rw (i .before .wide .ensures .0) at (i .if4 .left))
-    (sym (c .before .before .before .word-at .ensures .0) ∙ c .if5 .taken) ∙ sym (ap (rankOf _ _ _ _) (places (i .before .before .before .before .before) .holds))
-
-add-result : tie.Need-add-result
-add-result c = search needs
+    (sym (c .before .before .before .quad-at .ensures .0) ∙ c .if5 .taken) ∙ sym (ap (rankOf _ _ _ _) (places (i .before .before .before .before .before) .holds))
 
 returns-6 : tie.Need-returns-6
 returns-6 c =
@@ -122,13 +98,13 @@ returns-6 c =
     let i = w .before in
     let t = passed (i .before .before .before) in
     ap (λ n. 256 + n) (base (c .before .before)) ∙ rank-own _ _ _ _ _ (t .0) (t .1) (t .2) (rw (i .before .wide .ensures .0) at (i .if4 .left))
-    (λ e. c .before .if5 .left (w .word-at .ensures .0 ∙ e)) (sym (w .word-at .ensures .0) ∙ c .if6 .taken)
+    (λ e. c .before .if5 .left (w .quad-at .ensures .0 ∙ e)) (sym (w .quad-at .ensures .0) ∙ c .if6 .taken)
     ∙ sym (ap (rankOf _ _ _ _) (places (i .before .before .before .before .before) .holds))
 
 returns-7 : tie.Need-returns-7
 returns-7 c =
     let w = c .before .before .before .before in
-    rank-model _ _ _ _ _ (λ e. c .before .if5 .left (w .word-at .ensures .0 ∙ e)) (λ e. c .if6 .left (w .word-at .ensures .0 ∙ e))
+    rank-model _ _ _ _ _ (λ e. c .before .if5 .left (w .quad-at .ensures .0 ∙ e)) (λ e. c .if6 .left (w .quad-at .ensures .0 ∙ e))
     ∙ sym (ap (rankOf _ _ _ _) (places (w .before .before .before .before .before .before) .holds))
 
 pub rank-spec : {M : Type 1} → statement M
@@ -141,19 +117,19 @@ rank-spec =
     returns-2
     after-requires
     after-requires-2
-    add-fits
+    (λ c. search needs)
     fits-requires
     returns-3
-    add-wide
+    (λ c. search needs)
     shared-slice-read-wide
-    wide-requires
+    (λ c κs. search needs)
     returns-4
-    word-at-requires
-    shared-slice-read-wide-2
-    wide-requires-2
-    mul-base
-    add-base
+    quad-at-requires
+    (λ c. search needs)
+    (λ c κs. search needs)
+    (λ c. search needs)
+    (λ c. search needs)
     returns-5
-    add-result
+    (λ c. search needs)
     returns-6
     returns-7)

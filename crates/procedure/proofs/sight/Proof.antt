@@ -65,53 +65,17 @@ returns-2 c =
 after-requires : tie.Need-after-requires
 after-requires c κs = whole (c .before .before .before .before .before .before .before) .name
 
-add-from : tie.Need-add-from
-add-from c = search needs
-
 shared-slice-read-wide : tie.Need-shared-slice-read-wide
 shared-slice-read-wide c = omega (arith, view-from _ _ (c .before .after .ensures .0) (c .before .before .before .before .before .before .before .before .before .pre) .mask)
-
-wide-requires : tie.Need-wide-requires
-wide-requires c κs = search needs
-
-mul-mask : tie.Need-mul-mask
-mul-mask c = search needs
-
-add-mask : tie.Need-add-mask
-add-mask c = search needs
-
-add-bits : tie.Need-add-bits
-add-bits c = search needs
 
 shared-slice-read-wide-2 : tie.Need-shared-slice-read-wide-2
 shared-slice-read-wide-2 c = omega (arith, places (c .before) .mask)
 
-wide-requires-2 : tie.Need-wide-requires-2
-wide-requires-2 c κs = search needs
-
-add-end : tie.Need-add-end
-add-end c = search needs
-
-sub-is-below : tie.Need-sub-is-below
-sub-is-below c = search needs
-
-part-is-below-start : tie.Need-part-is-below-start
-part-is-below-start c = search needs
-
 part-is-below-end : tie.Need-part-is-below-end
 part-is-below-end c = omega (arith, places (c .before .before) .mask)
 
-sub-is-below-2 : tie.Need-sub-is-below-2
-sub-is-below-2 c = search needs
-
-part-is-below-start-2 : tie.Need-part-is-below-start-2
-part-is-below-start-2 c = search needs
-
 part-is-below-end-2 : tie.Need-part-is-below-end-2
 part-is-below-end-2 c = omega (arith, places (c .before .before .before) .mask, c .before .wide2 .ensures .0)
-
-is-below-requires : tie.Need-is-below-requires
-is-below-requires c κs = search needs
 
 returns-3 : tie.Need-returns-3
 returns-3 c =
@@ -134,21 +98,21 @@ sight-spec =
     is-active-requires
     returns-2
     after-requires
-    add-from
+    (λ c. search needs)
     shared-slice-read-wide
-    wide-requires
-    mul-mask
-    add-mask
-    add-bits
+    (λ c κs. search needs)
+    (λ c. search needs)
+    (λ c. search needs)
+    (λ c. search needs)
     shared-slice-read-wide-2
-    wide-requires-2
-    add-end
-    sub-is-below
-    part-is-below-start
+    (λ c κs. search needs)
+    (λ c. search needs)
+    (λ c. search needs)
+    (λ c. search needs)
     part-is-below-end
-    sub-is-below-2
-    part-is-below-start-2
+    (λ c. search needs)
+    (λ c. search needs)
     part-is-below-end-2
-    is-below-requires
+    (λ c κs. search needs)
     returns-3
     returns-4)

@@ -24,9 +24,6 @@ after-requires c κs = access-from _ _ _ refl refl (c .before .pre) .group
 after-requires-2 : tie.Need-after-requires-2
 after-requires-2 c κs = access-from _ _ _ (c .after .ensures .0) refl (c .before .before .pre) .prefix
 
-add-read : tie.Need-add-read
-add-read c = search needs
-
 returns : tie.Need-returns
 returns c =
     let l = second (c .before) in
@@ -55,7 +52,7 @@ view-at-spec =
     (tie.spec
     after-requires
     after-requires-2
-    add-read
+    (λ c. search needs)
     returns
     after-requires-3
     returns-2

@@ -5,11 +5,8 @@ use Rattle.reader.specs.declared.Read.{Read}
 use Rattle.reader.proofs.part_at.Statement.{statement}
 use Rattle.reader.proofs.part_at.Tie as tie
 
-read-from-requires : tie.Need-read-from-requires
-read-from-requires c κs = search needs
-
 returns : tie.Need-returns
 returns c = ap (λ (r : Read). r .part) (c .read-from .ensures)
 
 pub part-at-spec : {M : Type 1} → statement M
-part-at-spec = tie.close (tie.spec read-from-requires returns)
+part-at-spec = tie.close (tie.spec (λ c κs. search needs) returns)

@@ -27,15 +27,6 @@ row3 c = row2 (c .before .before .before .before)
 at3 : (c : tie.After-known-told3) → Passed accessKey 3 (row3 c) 0 (c .before .model .given .0 .0)
 at3 c = go (at2 (c .before .before .before .before)) (c .before .before .before .large .ensures) (c .before .model .given .1)
 
-sequence-requires : tie.Need-sequence-requires
-sequence-requires c κs = search needs
-
-enum-known-group : tie.Need-enum-known-group
-enum-known-group c = search needs
-
-enum-told : tie.Need-enum-told
-enum-told c = search needs
-
 returns : tie.Need-returns
 returns c =
     let s = c .before .before .before .before in
@@ -44,23 +35,11 @@ returns c =
 sequence-requires-2 : tie.Need-sequence-requires-2
 sequence-requires-2 c κs = (at1 c .inside, omega arith)
 
-enum-known-prefix : tie.Need-enum-known-prefix
-enum-known-prefix c = search needs
-
-enum-told-2 : tie.Need-enum-told-2
-enum-told-2 c = search needs
-
 returns-2 : tie.Need-returns-2
 returns-2 c = stop (at1 (c .before .before .before)) (c .before .before .sequence2 .ensures) (c .enum-told2 .given .1) _
 
 large-requires : tie.Need-large-requires
 large-requires c κs = at2 c .inside
-
-enum-known-model : tie.Need-enum-known-model
-enum-known-model c = search needs
-
-enum-told-3 : tie.Need-enum-told-3
-enum-told-3 c = search needs
 
 returns-3 : tie.Need-returns-3
 returns-3 c = stop (at2 (c .before .before .before)) (c .before .before .large .ensures) (c .enum-told3 .given .1) _
@@ -75,17 +54,17 @@ pub access-key-spec : {M : Type 1} → statement M
 access-key-spec =
     tie.close
     (tie.spec
-    sequence-requires
-    enum-known-group
-    enum-told
+    (λ c κs. search needs)
+    (λ c. search needs)
+    (λ c. search needs)
     returns
     sequence-requires-2
-    enum-known-prefix
-    enum-told-2
+    (λ c. search needs)
+    (λ c. search needs)
     returns-2
     large-requires
-    enum-known-model
-    enum-told-3
+    (λ c. search needs)
+    (λ c. search needs)
     returns-3
     small-requires
     returns-4)

@@ -54,15 +54,6 @@ key5 c = key4 (c .before .before .before .before)
 at5 : (c : tie.After-known-told5) → Passed accessRest 5 (row5 c) (key5 c) (c .before .storage .given .0 .0)
 at5 c = go (at4 (c .before .before .before .before)) (c .before .before .before .small2 .ensures) (c .before .storage .given .1)
 
-small-requires : tie.Need-small-requires
-small-requires c κs = search needs
-
-enum-known-exact : tie.Need-enum-known-exact
-enum-known-exact c = search needs
-
-enum-told : tie.Need-enum-told
-enum-told c = search needs
-
 returns : tie.Need-returns
 returns c =
     let s = c .before .before .before .before in
@@ -71,23 +62,11 @@ returns c =
 sequence-requires : tie.Need-sequence-requires
 sequence-requires c κs = (at1 c .inside, omega arith)
 
-enum-known-read : tie.Need-enum-known-read
-enum-known-read c = search needs
-
-enum-told-2 : tie.Need-enum-told-2
-enum-told-2 c = search needs
-
 returns-2 : tie.Need-returns-2
 returns-2 c = stop (at1 (c .before .before .before)) (c .before .before .sequence .ensures) (c .enum-told2 .given .1) _
 
 sequence-requires-2 : tie.Need-sequence-requires-2
 sequence-requires-2 c κs = (at2 c .inside, omega arith)
-
-enum-known-write : tie.Need-enum-known-write
-enum-known-write c = search needs
-
-enum-told-3 : tie.Need-enum-told-3
-enum-told-3 c = search needs
 
 returns-3 : tie.Need-returns-3
 returns-3 c = stop (at2 (c .before .before .before)) (c .before .before .sequence2 .ensures) (c .enum-told3 .given .1) _
@@ -95,23 +74,11 @@ returns-3 c = stop (at2 (c .before .before .before)) (c .before .before .sequenc
 sequence-requires-3 : tie.Need-sequence-requires-3
 sequence-requires-3 c κs = (at3 c .inside, omega arith)
 
-enum-known-notify : tie.Need-enum-known-notify
-enum-known-notify c = search needs
-
-enum-told-4 : tie.Need-enum-told-4
-enum-told-4 c = search needs
-
 returns-4 : tie.Need-returns-4
 returns-4 c = stop (at3 (c .before .before .before)) (c .before .before .sequence3 .ensures) (c .enum-told4 .given .1) _
 
 small-requires-2 : tie.Need-small-requires-2
 small-requires-2 c κs = at4 c .inside
-
-enum-known-storage : tie.Need-enum-known-storage
-enum-known-storage c = search needs
-
-enum-told-5 : tie.Need-enum-told-5
-enum-told-5 c = search needs
 
 returns-5 : tie.Need-returns-5
 returns-5 c = stop (at4 (c .before .before .before)) (c .before .before .small2 .ensures) (c .enum-told5 .given .1) _
@@ -126,25 +93,25 @@ pub access-rest-spec : {M : Type 1} → statement M
 access-rest-spec =
     tie.close
     (tie.spec
-    small-requires
-    enum-known-exact
-    enum-told
+    (λ c κs. search needs)
+    (λ c. search needs)
+    (λ c. search needs)
     returns
     sequence-requires
-    enum-known-read
-    enum-told-2
+    (λ c. search needs)
+    (λ c. search needs)
     returns-2
     sequence-requires-2
-    enum-known-write
-    enum-told-3
+    (λ c. search needs)
+    (λ c. search needs)
     returns-3
     sequence-requires-3
-    enum-known-notify
-    enum-told-4
+    (λ c. search needs)
+    (λ c. search needs)
     returns-4
     small-requires-2
-    enum-known-storage
-    enum-told-5
+    (λ c. search needs)
+    (λ c. search needs)
     returns-5
     small-requires-3
     returns-6)

@@ -10,15 +10,6 @@ use Rattle.rows.proofs.context_end.Tie as tie
 returns : tie.Need-returns
 returns c = inl refl
 
-byte-at-requires : tie.Need-byte-at-requires
-byte-at-requires c κs = search needs
-
-add-if2 : tie.Need-add-if2
-add-if2 c = search needs
-
-within-requires : tie.Need-within-requires
-within-requires c κs = search needs
-
 returns-2 : tie.Need-returns-2
 returns-2 c = inl refl
 
@@ -34,8 +25,8 @@ context-end-spec =
     tie.close
     (tie.spec
     returns
-    byte-at-requires
-    add-if2
-    within-requires
+    (λ c κs. search needs)
+    (λ c. search needs)
+    (λ c κs. search needs)
     returns-2
     returns-3)

@@ -6,11 +6,8 @@ use Rattle.rows.proofs.Judging.{start, land}
 use Rattle.rows.proofs.context_key.Statement.{statement}
 use Rattle.rows.proofs.context_key.Tie as tie
 
-sequence-requires : tie.Need-sequence-requires
-sequence-requires c κs = search needs
-
 returns : tie.Need-returns
 returns c = land (start contextKey (c .before .before .args .row .now) 0 (omega arith)) (c .sequence .ensures)
 
 pub context-key-spec : {M : Type 1} → statement M
-context-key-spec = tie.close (tie.spec sequence-requires returns)
+context-key-spec = tie.close (tie.spec (λ c κs. search needs) returns)

@@ -7,25 +7,13 @@ use Rattle.rows.specs.Rows.{rowFields}
 use Rattle.rows.proofs.form_at.Statement.{statement}
 use Rattle.rows.proofs.form_at.Tie as tie
 
-enum-told : tie.Need-enum-told
-enum-told c = search needs
-
-enum-told-2 : tie.Need-enum-told-2
-enum-told-2 c = search needs
-
 mapping-form-requires : tie.Need-mapping-form-requires
 unfolding rowFields
 mapping-form-requires c κs = rw (c .enum-told2 .given .1) at (c .before .before .pre)
 
-enum-told-3 : tie.Need-enum-told-3
-enum-told-3 c = search needs
-
 access-form-requires : tie.Need-access-form-requires
 unfolding rowFields
 access-form-requires c κs = rw (c .enum-told3 .given .1) at (c .before .before .pre)
-
-enum-told-4 : tie.Need-enum-told-4
-enum-told-4 c = search needs
 
 view-form-requires : tie.Need-view-form-requires
 unfolding rowFields
@@ -53,12 +41,12 @@ pub form-at-spec : {M : Type 1} → statement M
 form-at-spec =
     tie.close
     (tie.spec
-    enum-told
-    enum-told-2
+    (λ c. search needs)
+    (λ c. search needs)
     mapping-form-requires
-    enum-told-3
+    (λ c. search needs)
     access-form-requires
-    enum-told-4
+    (λ c. search needs)
     view-form-requires
     returns
     returns-2

@@ -30,15 +30,6 @@ keyed c =
       judged = rw (row-split (s .t)) (fields-go (keyFields (s .t)) (s .row .now) 0 e q (restFields (s .t)));
     }
 
-key-fields-requires : tie.Need-key-fields-requires
-key-fields-requires c κs = search needs
-
-enum-known-key : tie.Need-enum-known-key
-enum-known-key c = search needs
-
-enum-told : tie.Need-enum-told
-enum-told c = search needs
-
 returns : tie.Need-returns
 returns c =
     let s = c .before .before .before .before .args in
@@ -47,21 +38,12 @@ returns c =
 rest-fields-requires : tie.Need-rest-fields-requires
 rest-fields-requires c κs = keyed c .inside
 
-enum-known-rest : tie.Need-enum-known-rest
-enum-known-rest c = search needs
-
-enum-told-2 : tie.Need-enum-told-2
-enum-told-2 c = search needs
-
 returns-2 : tie.Need-returns-2
 returns-2 c =
     let x = c .before .before .before in
     let s = x .before .before .before .before .before .args in
     let a = x .before .key .given .0 .0 in
     rw (keyed x .judged) (fields-bad (restFields (s .t)) (s .row .now) a (c .before .before .rest-fields .ensures) (c .enum-told2 .given .1) (span (keyFields (s .t)) (s .row .now)))
-
-whole-requires : tie.Need-whole-requires
-whole-requires c κs = search needs
 
 returns-3 : tie.Need-returns-3
 returns-3 c =
@@ -76,13 +58,13 @@ pub judge-spec : {M : Type 1} → statement M
 judge-spec =
     tie.close
     (tie.spec
-    key-fields-requires
-    enum-known-key
-    enum-told
+    (λ c κs. search needs)
+    (λ c. search needs)
+    (λ c. search needs)
     returns
     rest-fields-requires
-    enum-known-rest
-    enum-told-2
+    (λ c. search needs)
+    (λ c. search needs)
     returns-2
-    whole-requires
+    (λ c κs. search needs)
     returns-3)

@@ -9,22 +9,10 @@ use Rattle.rows.proofs.Judging.{fields-bad, fields-end, fields-whole}
 use Rattle.rows.proofs.judge_key.Statement.{statement}
 use Rattle.rows.proofs.judge_key.Tie as tie
 
-key-fields-requires : tie.Need-key-fields-requires
-key-fields-requires c κs = search needs
-
-enum-known-fields : tie.Need-enum-known-fields
-enum-known-fields c = search needs
-
-enum-told : tie.Need-enum-told
-enum-told c = search needs
-
 returns : tie.Need-returns
 returns c =
     let s = c .before .before .before .before .args in
     fields-bad (keyFields (s .t)) (s .key .now) 0 (c .before .before .key-fields .ensures) (c .enum-told .given .1) _
-
-whole-requires : tie.Need-whole-requires
-whole-requires c κs = search needs
 
 returns-2 : tie.Need-returns-2
 returns-2 c =
@@ -38,4 +26,4 @@ returns-2 c =
 pub judge-key-spec : {M : Type 1} → statement M
 judge-key-spec =
     tie.close
-    (tie.spec key-fields-requires enum-known-fields enum-told returns whole-requires returns-2)
+    (tie.spec (λ c κs. search needs) (λ c. search needs) (λ c. search needs) returns (λ c κs. search needs) returns-2)

@@ -4,30 +4,6 @@ use borrow.Author.Needs.{needs}
 use Rattle.rows.proofs.key_end.Statement.{statement}
 use Rattle.rows.proofs.key_end.Tie as tie
 
-enum-told : tie.Need-enum-told
-enum-told c = search needs
-
-context-end-requires : tie.Need-context-end-requires
-context-end-requires c κs = search needs
-
-enum-told-2 : tie.Need-enum-told-2
-enum-told-2 c = search needs
-
-mapping-end-requires : tie.Need-mapping-end-requires
-mapping-end-requires c κs = search needs
-
-enum-told-3 : tie.Need-enum-told-3
-enum-told-3 c = search needs
-
-access-end-requires : tie.Need-access-end-requires
-access-end-requires c κs = search needs
-
-enum-told-4 : tie.Need-enum-told-4
-enum-told-4 c = search needs
-
-view-end-requires : tie.Need-view-end-requires
-view-end-requires c κs = search needs
-
 returns : tie.Need-returns
 returns c = rw (c .before .enum-told .given .1) (c .context-end .ensures)
 
@@ -44,14 +20,14 @@ pub key-end-spec : {M : Type 1} → statement M
 key-end-spec =
     tie.close
     (tie.spec
-    enum-told
-    context-end-requires
-    enum-told-2
-    mapping-end-requires
-    enum-told-3
-    access-end-requires
-    enum-told-4
-    view-end-requires
+    (λ c. search needs)
+    (λ c κs. search needs)
+    (λ c. search needs)
+    (λ c κs. search needs)
+    (λ c. search needs)
+    (λ c κs. search needs)
+    (λ c. search needs)
+    (λ c κs. search needs)
     returns
     returns-2
     returns-3

@@ -5,30 +5,6 @@ use Rattle.rows.specs.Rows.{keyFields}
 use Rattle.rows.proofs.key_fields.Statement.{statement}
 use Rattle.rows.proofs.key_fields.Tie as tie
 
-enum-told : tie.Need-enum-told
-enum-told c = search needs
-
-context-key-requires : tie.Need-context-key-requires
-context-key-requires c κs = search needs
-
-enum-told-2 : tie.Need-enum-told-2
-enum-told-2 c = search needs
-
-mapping-key-requires : tie.Need-mapping-key-requires
-mapping-key-requires c κs = search needs
-
-enum-told-3 : tie.Need-enum-told-3
-enum-told-3 c = search needs
-
-access-key-requires : tie.Need-access-key-requires
-access-key-requires c κs = search needs
-
-enum-told-4 : tie.Need-enum-told-4
-enum-told-4 c = search needs
-
-view-key-requires : tie.Need-view-key-requires
-view-key-requires c κs = search needs
-
 returns : tie.Need-returns
 unfolding keyFields
 returns c = rw (c .before .enum-told .given .1) (c .context-key .ensures)
@@ -49,14 +25,14 @@ pub key-fields-spec : {M : Type 1} → statement M
 key-fields-spec =
     tie.close
     (tie.spec
-    enum-told
-    context-key-requires
-    enum-told-2
-    mapping-key-requires
-    enum-told-3
-    access-key-requires
-    enum-told-4
-    view-key-requires
+    (λ c. search needs)
+    (λ c κs. search needs)
+    (λ c. search needs)
+    (λ c κs. search needs)
+    (λ c. search needs)
+    (λ c κs. search needs)
+    (λ c. search needs)
+    (λ c κs. search needs)
     returns
     returns-2
     returns-3

@@ -1,44 +1,35 @@
 -- `rows::large` meets its contract: each return is what the definition answers once the tests before it are known.
--- The number is what `word_at` reads at the place. Assumes nothing.
+-- The number is what `quad_at` reads at the place. Assumes nothing.
 use native.Mathlib.Omega.{arith}
 use borrow.Author.Needs.{needs}
-use Rattle.rows.specs.Fields.{word}
+use Rattle.big_endian.specs.BigEndian.{quad}
 use Rattle.rows.proofs.Steps.{within-low, within-high, within-yes, integer-short, integer-out, integer-whole}
 use Rattle.rows.proofs.large.Statement.{statement}
 use Rattle.rows.proofs.large.Tie as tie
 
-sub-if1 : tie.Need-sub-if1
-sub-if1 c = search needs
-
 returns : tie.Need-returns
 returns c =
     let s = c .before .before .args in
-    integer-short (s .row .now) (s .at) word (s .lo) (s .hi) (c .if1 .taken)
-
-word-at-requires : tie.Need-word-at-requires
-word-at-requires c κs = search needs
+    integer-short (s .row .now) (s .at) quad (s .lo) (s .hi) (c .if1 .taken)
 
 returns-2 : tie.Need-returns-2
 returns-2 c =
     let x = c .before in
     let s = x .before .before .before .args in
-    integer-out (s .row .now) (s .at) word (s .lo) (s .hi) _ (x .word-at .ensures .0) (omega arith) (within-low (s .lo) (s .hi) _ (c .if2 .taken))
+    integer-out (s .row .now) (s .at) quad (s .lo) (s .hi) _ (x .quad-at .ensures .0) (omega arith) (within-low (s .lo) (s .hi) _ (c .if2 .taken))
 
 returns-3 : tie.Need-returns-3
 returns-3 c =
     let x = c .before .before in
     let s = x .before .before .before .args in
-    integer-out (s .row .now) (s .at) word (s .lo) (s .hi) _ (x .word-at .ensures .0) (omega arith) (within-high (s .lo) (s .hi) _ (c .if3 .taken))
-
-add-t6 : tie.Need-add-t6
-add-t6 c = search needs
+    integer-out (s .row .now) (s .at) quad (s .lo) (s .hi) _ (x .quad-at .ensures .0) (omega arith) (within-high (s .lo) (s .hi) _ (c .if3 .taken))
 
 returns-4 : tie.Need-returns-4
 returns-4 c =
     let x = c .before .before in
     let s = x .before .before .before .args in
-    integer-whole (s .row .now) (s .at) word (s .lo) (s .hi) _ (x .word-at .ensures .0) (omega arith) (within-yes (s .lo) (s .hi) _ (c .before .if2 .left) (c .if3 .left))
+    integer-whole (s .row .now) (s .at) quad (s .lo) (s .hi) _ (x .quad-at .ensures .0) (omega arith) (within-yes (s .lo) (s .hi) _ (c .before .if2 .left) (c .if3 .left))
 
 pub large-spec : {M : Type 1} → statement M
 large-spec =
-    tie.close (tie.spec sub-if1 returns word-at-requires returns-2 returns-3 add-t6 returns-4)
+    tie.close (tie.spec (λ c. search needs) returns (λ c κs. search needs) returns-2 returns-3 (λ c. search needs) returns-4)

@@ -10,44 +10,8 @@ use Rattle.rows.proofs.mapping_end.Tie as tie
 returns : tie.Need-returns
 returns c = inl refl
 
-word-at-requires : tie.Need-word-at-requires
-word-at-requires c κs = search needs
-
-byte-at-requires : tie.Need-byte-at-requires
-byte-at-requires c κs = search needs
-
-add-a : tie.Need-add-a
-add-a c = search needs
-
-add-if2 : tie.Need-add-if2
-add-if2 c = search needs
-
 returns-2 : tie.Need-returns-2
 returns-2 c = inl refl
-
-byte-at-requires-2 : tie.Need-byte-at-requires-2
-byte-at-requires-2 c κs = search needs
-
-add-if3 : tie.Need-add-if3
-add-if3 c = search needs
-
-add-if3-2 : tie.Need-add-if3-2
-add-if3-2 c = search needs
-
-add-if3-3 : tie.Need-add-if3-3
-add-if3-3 c = search needs
-
-within-requires : tie.Need-within-requires
-within-requires c κs = search needs
-
-within-requires-2 : tie.Need-within-requires-2
-within-requires-2 c κs = search needs
-
-within-requires-3 : tie.Need-within-requires-3
-within-requires-3 c κs = search needs
-
-ends-well-requires : tie.Need-ends-well-requires
-ends-well-requires c κs = search needs
 
 returns-3 : tie.Need-returns-3
 returns-3 c = inl refl
@@ -62,7 +26,7 @@ returns-4 c =
     let group = i1 .before in
     let name = group .before .before in
     let model = name .before in
-    inr (mapping-legal (model .before .before .before .args .row .now) _ _ _ _ (model .word-at .ensures .0) (name .byte-at .ensures .0) refl (group .byte-at2 .ensures .0)
+    inr (mapping-legal (model .before .before .before .args .row .now) _ _ _ _ (model .quad-at .ensures .0) (name .byte-at .ensures .0) refl (group .byte-at2 .ensures .0)
     (rw (← i1 .within .ensures, ← i2 .within2 .ensures, ← i3 .within3 .ensures, ← e .ends-well .ensures) (not-false _ (c .if3 .left))))
 
 pub mapping-end-spec : {M : Type 1} → statement M
@@ -70,18 +34,18 @@ mapping-end-spec =
     tie.close
     (tie.spec
     returns
-    word-at-requires
-    byte-at-requires
-    add-a
-    add-if2
+    (λ c κs. search needs)
+    (λ c κs. search needs)
+    (λ c. search needs)
+    (λ c. search needs)
     returns-2
-    byte-at-requires-2
-    add-if3
-    add-if3-2
-    add-if3-3
-    within-requires
-    within-requires-2
-    within-requires-3
-    ends-well-requires
+    (λ c κs. search needs)
+    (λ c. search needs)
+    (λ c. search needs)
+    (λ c. search needs)
+    (λ c κs. search needs)
+    (λ c κs. search needs)
+    (λ c κs. search needs)
+    (λ c κs. search needs)
     returns-3
     returns-4)

@@ -5,20 +5,8 @@ use borrow.Author.Needs.{needs}
 use Rattle.rows.proofs.mapping_form.Statement.{statement}
 use Rattle.rows.proofs.mapping_form.Tie as tie
 
-returns : tie.Need-returns
-returns c = search needs
-
-returns-2 : tie.Need-returns-2
-returns-2 c = search needs
-
-returns-3 : tie.Need-returns-3
-returns-3 c = search needs
-
-returns-4 : tie.Need-returns-4
-returns-4 c = search needs
-
 returns-5 : tie.Need-returns-5
 returns-5 c = let e : c .before .args .i ≡ 4 = omega arith in rw e
 
 pub mapping-form-spec : {M : Type 1} → statement M
-mapping-form-spec = tie.close (tie.spec returns returns-2 returns-3 returns-4 returns-5)
+mapping-form-spec = tie.close (tie.spec (λ c. search needs) (λ c. search needs) (λ c. search needs) (λ c. search needs) returns-5)

@@ -15,15 +15,6 @@ row1 c = c .before .before .before .before .before .args .row .now
 at1 : (c : tie.After-known-told) → Passed mappingKey 1 (row1 c) 0 (c .before .model .given .0 .0)
 at1 c = go (start mappingKey (row1 c) 0 (omega arith)) (c .before .before .before .large .ensures) (c .before .model .given .1)
 
-large-requires : tie.Need-large-requires
-large-requires c κs = search needs
-
-enum-known-model : tie.Need-enum-known-model
-enum-known-model c = search needs
-
-enum-told : tie.Need-enum-told
-enum-told c = search needs
-
 returns : tie.Need-returns
 returns c =
     let s = c .before .before .before .before in
@@ -36,4 +27,4 @@ returns-2 : tie.Need-returns-2
 returns-2 c = land (at1 (c .before)) (c .sequence .ensures)
 
 pub mapping-key-spec : {M : Type 1} → statement M
-mapping-key-spec = tie.close (tie.spec large-requires enum-known-model enum-told returns sequence-requires returns-2)
+mapping-key-spec = tie.close (tie.spec (λ c κs. search needs) (λ c. search needs) (λ c. search needs) returns sequence-requires returns-2)

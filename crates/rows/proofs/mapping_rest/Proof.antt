@@ -27,15 +27,6 @@ key2 c = key1 (c .before .before .before .before)
 at2 : (c : tie.After-known-told2) → Passed mappingRest 2 (row2 c) (key2 c) (c .before .storage .given .0 .0)
 at2 c = go (at1 (c .before .before .before .before)) (c .before .before .before .small .ensures) (c .before .storage .given .1)
 
-sequence-requires : tie.Need-sequence-requires
-sequence-requires c κs = search needs
-
-enum-known-group : tie.Need-enum-known-group
-enum-known-group c = search needs
-
-enum-told : tie.Need-enum-told
-enum-told c = search needs
-
 returns : tie.Need-returns
 returns c =
     let s = c .before .before .before .before in
@@ -43,12 +34,6 @@ returns c =
 
 small-requires : tie.Need-small-requires
 small-requires c κs = at1 c .inside
-
-enum-known-storage : tie.Need-enum-known-storage
-enum-known-storage c = search needs
-
-enum-told-2 : tie.Need-enum-told-2
-enum-told-2 c = search needs
 
 returns-2 : tie.Need-returns-2
 returns-2 c = stop (at1 (c .before .before .before)) (c .before .before .small .ensures) (c .enum-told2 .given .1) _
@@ -63,13 +48,13 @@ pub mapping-rest-spec : {M : Type 1} → statement M
 mapping-rest-spec =
     tie.close
     (tie.spec
-    sequence-requires
-    enum-known-group
-    enum-told
+    (λ c κs. search needs)
+    (λ c. search needs)
+    (λ c. search needs)
     returns
     small-requires
-    enum-known-storage
-    enum-told-2
+    (λ c. search needs)
+    (λ c. search needs)
     returns-2
     small-requires-2
     returns-3)

@@ -6,27 +6,6 @@ use Rattle.rows.specs.Fields.{fronts, span}
 use Rattle.rows.proofs.rest_fields.Statement.{statement}
 use Rattle.rows.proofs.rest_fields.Tie as tie
 
-enum-told : tie.Need-enum-told
-enum-told c = search needs
-
-enum-told-2 : tie.Need-enum-told-2
-enum-told-2 c = search needs
-
-mapping-rest-requires : tie.Need-mapping-rest-requires
-mapping-rest-requires c κs = search needs
-
-enum-told-3 : tie.Need-enum-told-3
-enum-told-3 c = search needs
-
-access-rest-requires : tie.Need-access-rest-requires
-access-rest-requires c κs = search needs
-
-enum-told-4 : tie.Need-enum-told-4
-enum-told-4 c = search needs
-
-view-rest-requires : tie.Need-view-rest-requires
-view-rest-requires c κs = search needs
-
 returns : tie.Need-returns
 unfolding fronts span
 returns c = rw (c .enum-told .given .1, add-zero)
@@ -44,13 +23,13 @@ pub rest-fields-spec : {M : Type 1} → statement M
 rest-fields-spec =
     tie.close
     (tie.spec
-    enum-told
-    enum-told-2
-    mapping-rest-requires
-    enum-told-3
-    access-rest-requires
-    enum-told-4
-    view-rest-requires
+    (λ c. search needs)
+    (λ c. search needs)
+    (λ c κs. search needs)
+    (λ c. search needs)
+    (λ c κs. search needs)
+    (λ c. search needs)
+    (λ c κs. search needs)
     returns
     returns-2
     returns-3

@@ -27,12 +27,6 @@ returns c =
     let s = c .before .before .args in
     sequence-none (s .row .now) (s .at) (s .size) (s .lo) (s .hi) _ refl (c .if1 .taken)
 
-shared-slice-read-wide : tie.Need-shared-slice-read-wide
-shared-slice-read-wide c = search needs
-
-wide-requires : tie.Need-wide-requires
-wide-requires c κs = search needs
-
 returns-2 : tie.Need-returns-2
 returns-2 c =
     let x = c .before in
@@ -51,17 +45,11 @@ mul-t c = omega (arith, bound c)
 add-t : tie.Need-add-t
 add-t c = omega (arith, bound c)
 
-sub-if4 : tie.Need-sub-if4
-sub-if4 c = search needs
-
 returns-4 : tie.Need-returns-4
 returns-4 c =
     let x = c .before .before .before in
     let s = x .before .before .before .before .args in
     sequence-short (s .row .now) (s .at) (s .size) (s .lo) (s .hi) _ (x .wide .ensures .0) (omega arith) (ranged (c .before)) (c .if4 .taken)
-
-add-t8 : tie.Need-add-t8
-add-t8 c = search needs
 
 returns-5 : tie.Need-returns-5
 returns-5 c =
@@ -74,13 +62,13 @@ sequence-spec =
     tie.close
     (tie.spec
     returns
-    shared-slice-read-wide
-    wide-requires
+    (λ c. search needs)
+    (λ c κs. search needs)
     returns-2
     returns-3
     mul-t
     add-t
-    sub-if4
+    (λ c. search needs)
     returns-4
-    add-t8
+    (λ c. search needs)
     returns-5)

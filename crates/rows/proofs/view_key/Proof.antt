@@ -15,15 +15,6 @@ row1 c = c .before .before .before .before .before .args .row .now
 at1 : (c : tie.After-known-told) → Passed viewKey 1 (row1 c) 0 (c .before .name .given .0 .0)
 at1 c = go (start viewKey (row1 c) 0 (omega arith)) (c .before .before .before .sequence .ensures) (c .before .name .given .1)
 
-sequence-requires : tie.Need-sequence-requires
-sequence-requires c κs = search needs
-
-enum-known-name : tie.Need-enum-known-name
-enum-known-name c = search needs
-
-enum-told : tie.Need-enum-told
-enum-told c = search needs
-
 returns : tie.Need-returns
 returns c =
     let s = c .before .before .before .before in
@@ -36,4 +27,4 @@ returns-2 : tie.Need-returns-2
 returns-2 c = land (at1 (c .before)) (c .sequence2 .ensures)
 
 pub view-key-spec : {M : Type 1} → statement M
-view-key-spec = tie.close (tie.spec sequence-requires enum-known-name enum-told returns sequence-requires-2 returns-2)
+view-key-spec = tie.close (tie.spec (λ c κs. search needs) (λ c. search needs) (λ c. search needs) returns sequence-requires-2 returns-2)

@@ -36,15 +36,6 @@ key3 c = key2 (c .before .before .before .before)
 at3 : (c : tie.After-known-told3) → Passed viewRest 3 (row3 c) (key3 c) (c .before .storage .given .0 .0)
 at3 c = go (at2 (c .before .before .before .before)) (c .before .before .before .small2 .ensures) (c .before .storage .given .1)
 
-sequence-requires : tie.Need-sequence-requires
-sequence-requires c κs = search needs
-
-enum-known-mask : tie.Need-enum-known-mask
-enum-known-mask c = search needs
-
-enum-told : tie.Need-enum-told
-enum-told c = search needs
-
 returns : tie.Need-returns
 returns c =
     let s = c .before .before .before .before in
@@ -53,23 +44,11 @@ returns c =
 small-requires : tie.Need-small-requires
 small-requires c κs = at1 c .inside
 
-enum-known-kind : tie.Need-enum-known-kind
-enum-known-kind c = search needs
-
-enum-told-2 : tie.Need-enum-told-2
-enum-told-2 c = search needs
-
 returns-2 : tie.Need-returns-2
 returns-2 c = stop (at1 (c .before .before .before)) (c .before .before .small .ensures) (c .enum-told2 .given .1) _
 
 small-requires-2 : tie.Need-small-requires-2
 small-requires-2 c κs = at2 c .inside
-
-enum-known-storage : tie.Need-enum-known-storage
-enum-known-storage c = search needs
-
-enum-told-3 : tie.Need-enum-told-3
-enum-told-3 c = search needs
 
 returns-3 : tie.Need-returns-3
 returns-3 c = stop (at2 (c .before .before .before)) (c .before .before .small2 .ensures) (c .enum-told3 .given .1) _
@@ -84,17 +63,17 @@ pub view-rest-spec : {M : Type 1} → statement M
 view-rest-spec =
     tie.close
     (tie.spec
-    sequence-requires
-    enum-known-mask
-    enum-told
+    (λ c κs. search needs)
+    (λ c. search needs)
+    (λ c. search needs)
     returns
     small-requires
-    enum-known-kind
-    enum-told-2
+    (λ c. search needs)
+    (λ c. search needs)
     returns-2
     small-requires-2
-    enum-known-storage
-    enum-told-3
+    (λ c. search needs)
+    (λ c. search needs)
     returns-3
     small-requires-3
     returns-4)

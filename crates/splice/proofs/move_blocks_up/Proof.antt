@@ -19,28 +19,10 @@ abbrev μ-loop : tie.MeasureT-loop
 loop-holds : tie.Need-loop-holds Inv-loop μ-loop
 loop-holds c = (search needs, search needs, moved-none (c .before .args .w .now) (c .before .args .end) (c .before .args .end + c .before .args .by), refl)
 
-sub-loop : tie.Need-sub-loop Inv-loop μ-loop
-sub-loop c = search needs
-
-sub-j : tie.Need-sub-j Inv-loop μ-loop
-sub-j c = search needs
-
-add-move-block : tie.Need-add-move-block Inv-loop μ-loop
-add-move-block c = search needs
-
-move-block-requires : tie.Need-move-block-requires Inv-loop μ-loop
-move-block-requires c κs = search needs
-
-loop-less : tie.Need-loop-less Inv-loop μ-loop
-loop-less c = search needs
-
 loop-again : tie.Need-loop-again Inv-loop μ-loop
 loop-again c =
     let l = c .before .before .before .before .before .loop in
     (omega arith, omega arith, c .before .before .move-block .ensures ∙ moved-front _ _ (l .j - 64) (l .j - 64 + 64) (l .j) _ _ (l .inv .2) (omega arith) (omega arith) (omega arith) (omega arith), search needs)
-
-same-length : tie.Need-same-length Inv-loop μ-loop
-same-length c = search needs
 
 returns : tie.Need-returns Inv-loop μ-loop
 returns c = let l = c .before .loop in (l .inv .0, l .inv .1, l .inv .2)
@@ -52,11 +34,11 @@ move-blocks-up-spec =
     Inv-loop
     μ-loop
     loop-holds
-    sub-loop
-    sub-j
-    add-move-block
-    move-block-requires
-    loop-less
+    (λ c. search needs)
+    (λ c. search needs)
+    (λ c. search needs)
+    (λ c κs. search needs)
+    (λ c. search needs)
     loop-again
-    same-length
+    (λ c. search needs)
     returns)

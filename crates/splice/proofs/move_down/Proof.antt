@@ -17,29 +17,11 @@ Inv-loop w₀ from end by j₀ w j = (j₀ ≤ j) × (j ≤ end) × (w ≡ moved
 abbrev μ-loop : tie.MeasureT-loop
 μ-loop w₀ from end by j₀ w j = end - j
 
-move-blocks-down-requires : tie.Need-move-blocks-down-requires Inv-loop μ-loop
-move-blocks-down-requires c κs = search needs
-
 loop-holds : tie.Need-loop-holds Inv-loop μ-loop
 loop-holds c =
     let b = c .before .before .move-blocks-down in
     let s = c .before .before .before .before .before .args in
     (search needs, search needs, moved-none (b .last .0) (b .result) (b .result - s .by), refl)
-
-slice-read-w : tie.Need-slice-read-w Inv-loop μ-loop
-slice-read-w c = search needs
-
-sub-w : tie.Need-sub-w Inv-loop μ-loop
-sub-w c = search needs
-
-slice-write-w : tie.Need-slice-write-w Inv-loop μ-loop
-slice-write-w c = search needs
-
-add-j : tie.Need-add-j Inv-loop μ-loop
-add-j c = search needs
-
-loop-less : tie.Need-loop-less Inv-loop μ-loop
-loop-less c = search needs
 
 loop-again : tie.Need-loop-again Inv-loop μ-loop
 loop-again c =
@@ -47,9 +29,6 @@ loop-again c =
     let s = c .before .before .before .before .before .before .before .before .args in
     let one = moved-one (l .w) (l .j) (l .j - s .by) (omega arith) (omega arith) in
     (omega arith, omega arith, one ∙ moved-back _ _ _ (l .j) (l .j + 1) _ (l .inv .2) (omega arith) (omega arith) (omega arith) (omega arith), simp length-set (l .inv .3))
-
-same-length : tie.Need-same-length Inv-loop μ-loop
-same-length c = search needs
 
 returns : tie.Need-returns Inv-loop μ-loop
 returns c =
@@ -67,13 +46,13 @@ move-down-spec =
     (tie.spec
     Inv-loop
     μ-loop
-    move-blocks-down-requires
+    (λ c κs. search needs)
     loop-holds
-    slice-read-w
-    sub-w
-    slice-write-w
-    add-j
-    loop-less
+    (λ c. search needs)
+    (λ c. search needs)
+    (λ c. search needs)
+    (λ c. search needs)
+    (λ c. search needs)
     loop-again
-    same-length
+    (λ c. search needs)
     returns)

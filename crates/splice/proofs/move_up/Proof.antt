@@ -17,29 +17,11 @@ Inv-loop w₀ from end by j₀ w j = (from ≤ j) × (j ≤ j₀) × (w ≡ move
 abbrev μ-loop : tie.MeasureT-loop
 μ-loop w₀ from end by j₀ w j = j
 
-move-blocks-up-requires : tie.Need-move-blocks-up-requires Inv-loop μ-loop
-move-blocks-up-requires c κs = search needs
-
 loop-holds : tie.Need-loop-holds Inv-loop μ-loop
 loop-holds c =
     let b = c .before .before .move-blocks-up in
     let s = c .before .before .before .before .before .args in
     (search needs, search needs, moved-none (b .last .0) (b .result) (b .result + s .by), refl)
-
-sub-j : tie.Need-sub-j Inv-loop μ-loop
-sub-j c = search needs
-
-slice-read-w : tie.Need-slice-read-w Inv-loop μ-loop
-slice-read-w c = search needs
-
-add-w : tie.Need-add-w Inv-loop μ-loop
-add-w c = search needs
-
-slice-write-w : tie.Need-slice-write-w Inv-loop μ-loop
-slice-write-w c = search needs
-
-loop-less : tie.Need-loop-less Inv-loop μ-loop
-loop-less c = search needs
 
 loop-again : tie.Need-loop-again Inv-loop μ-loop
 loop-again c =
@@ -48,9 +30,6 @@ loop-again c =
     let i : ℕ = l .j - 1 in
     let one = moved-one (l .w) i (i + s .by) (omega arith) (omega arith) in
     (omega arith, omega arith, one ∙ moved-front _ _ i (i + 1) (l .j) _ _ (l .inv .2) (omega arith) (omega arith) (omega arith) (omega arith), simp length-set (l .inv .3))
-
-same-length : tie.Need-same-length Inv-loop μ-loop
-same-length c = search needs
 
 returns : tie.Need-returns Inv-loop μ-loop
 returns c =
@@ -68,13 +47,13 @@ move-up-spec =
     (tie.spec
     Inv-loop
     μ-loop
-    move-blocks-up-requires
+    (λ c κs. search needs)
     loop-holds
-    sub-j
-    slice-read-w
-    add-w
-    slice-write-w
-    loop-less
+    (λ c. search needs)
+    (λ c. search needs)
+    (λ c. search needs)
+    (λ c. search needs)
+    (λ c. search needs)
     loop-again
-    same-length
+    (λ c. search needs)
     returns)

@@ -7,26 +7,11 @@ use Rattle.splice.proofs.Laws.{moved-same}
 use Rattle.splice.proofs.shift.Statement.{statement}
 use Rattle.splice.proofs.shift.Tie as tie
 
-sub-move-up : tie.Need-sub-move-up
-sub-move-up c = search needs
-
-move-up-requires : tie.Need-move-up-requires
-move-up-requires c κs = search needs
-
-move-down-requires : tie.Need-move-down-requires
-move-down-requires c κs = search needs
-
-same-length : tie.Need-same-length
-same-length c = search needs
-
 returns : tie.Need-returns
 returns c =
     let s = c .before .before .before .before .before .before .args in
     let e : s .to ≡ s .from + (s .to - s .from) = omega arith in
     rw e (c .before .before .move-up .ensures)
-
-same-length-2 : tie.Need-same-length-2
-same-length-2 c = search needs
 
 returns-2 : tie.Need-returns-2
 returns-2 c =
@@ -44,11 +29,11 @@ pub shift-spec : {M : Type 1} → statement M
 shift-spec =
     tie.close
     (tie.spec
-    sub-move-up
-    move-up-requires
-    move-down-requires
-    same-length
+    (λ c. search needs)
+    (λ c κs. search needs)
+    (λ c κs. search needs)
+    (λ c. search needs)
     returns
-    same-length-2
+    (λ c. search needs)
     returns-2
     returns-3)

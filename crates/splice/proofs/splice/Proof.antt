@@ -5,21 +5,6 @@ use Rattle.splice.proofs.Laws.{paste-moved}
 use Rattle.splice.proofs.splice.Statement.{statement}
 use Rattle.splice.proofs.splice.Tie as tie
 
-add-shift : tie.Need-add-shift
-add-shift c = search needs
-
-add-shift-2 : tie.Need-add-shift-2
-add-shift-2 c = search needs
-
-shift-requires : tie.Need-shift-requires
-shift-requires c κs = search needs
-
-copy-in-requires : tie.Need-copy-in-requires
-copy-in-requires c κs = search needs
-
-same-length : tie.Need-same-length
-same-length c = search needs
-
 returns : tie.Need-returns
 returns c =
     let moved = c .before .before .before .before .before .before in
@@ -30,4 +15,4 @@ returns c =
 
 pub splice-spec : {M : Type 1} → statement M
 splice-spec =
-    tie.close (tie.spec add-shift add-shift-2 shift-requires copy-in-requires same-length returns)
+    tie.close (tie.spec (λ c. search needs) (λ c. search needs) (λ c κs. search needs) (λ c κs. search needs) (λ c. search needs) returns)

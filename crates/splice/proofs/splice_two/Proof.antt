@@ -13,33 +13,6 @@ use Rattle.splice.proofs.Laws.{behind-first, between-first}
 use Rattle.splice.proofs.splice_two.Statement.{statement}
 use Rattle.splice.proofs.splice_two.Tie as tie
 
-sub-to : tie.Need-sub-to
-sub-to c = search needs
-
-add-to : tie.Need-add-to
-add-to c = search needs
-
-add-next : tie.Need-add-next
-add-next c = search needs
-
-add-shift : tie.Need-add-shift
-add-shift c = search needs
-
-shift-requires : tie.Need-shift-requires
-shift-requires c κs = search needs
-
-splice-requires : tie.Need-splice-requires
-splice-requires c κs = search needs
-
-splice-requires-2 : tie.Need-splice-requires-2
-splice-requires-2 c κs = search needs
-
-add-shift-2 : tie.Need-add-shift-2
-add-shift-2 c = search needs
-
-shift-requires-2 : tie.Need-shift-requires-2
-shift-requires-2 c κs = search needs
-
 -- where the arms meet
 both-length : (c : tie.Joined1) → length (c .if1 .w) ≡ length (c .before .before .before .before .args .w .now)
 both-length c =
@@ -72,15 +45,15 @@ pub splice-two-spec : {M : Type 1} → statement M
 splice-two-spec =
     tie.close
     (tie.spec
-    sub-to
-    add-to
-    add-next
-    add-shift
-    shift-requires
-    splice-requires
-    splice-requires-2
-    add-shift-2
-    shift-requires-2
+    (λ c. search needs)
+    (λ c. search needs)
+    (λ c. search needs)
+    (λ c. search needs)
+    (λ c κs. search needs)
+    (λ c κs. search needs)
+    (λ c κs. search needs)
+    (λ c. search needs)
+    (λ c κs. search needs)
     copy-in-requires
     same-length
     returns)

@@ -6,7 +6,8 @@ use Prim.Native.Nat.{ℕ, _+_}
 use native.Mathlib.Omega.{arith}
 use borrow.Author.Needs.{needs}
 use Rattle.rows.specs.declared.Table.the-variants.{Access}
-use Rattle.rows.specs.Fields.{Field, octet, word, sequence, integer, values}
+use Rattle.rows.specs.Fields.{Field, sequence, integer, values}
+use Rattle.big_endian.specs.BigEndian.{octet, quad}
 use Rattle.rows.specs.Rows.{keyFields}
 use Rattle.texts.specs.Texts.{keyText}
 use Rattle.texts.proofs.Keys.{Fields, word-room, word-step, field-room, field-step, field-last, AccessKey, access-key}
@@ -53,12 +54,6 @@ after-requires-2 c κs =
     let s = c .before .before .before in
     access-key (s .args .key .now) _ _ (c .after .ensures .0) refl (s .pre .0) .prefix .inside
 
-add-level : tie.Need-add-level
-add-level c = search needs
-
-slice-aggregate-put-text : tie.Need-slice-aggregate-put-text
-slice-aggregate-put-text c = search needs
-
 put-text-requires : tie.Need-put-text-requires
 put-text-requires c κs =
     let s = c .before .before .before .before .before .before in
@@ -76,7 +71,7 @@ put-name-field-requires c κs =
     (omega (arith, from-word p .before .after .ensures), field-room (layout (from-word p) .group) (left-fields p))
 
 left-prefix : (c : tie.After-put-name-field)
-    → Left (begun (from-group c)) (sequence octet 0 32 ∷ integer word 0 2147483647 ∷ integer octet 1 3 ∷ []) (prefix (from-group c))
+    → Left (begun (from-group c)) (sequence octet 0 32 ∷ integer quad 0 2147483647 ∷ integer octet 1 3 ∷ []) (prefix (from-group c))
     (c .put-name-field .result) (c .put-name-field .last .0)
 unfolding keyFields
 left-prefix c = field-step (layout (from-group c) .group) (left-fields (c .before .before .before .before)) (c .put-name-field .ensures)
@@ -87,38 +82,32 @@ put-name-field-requires-2 c κs =
     (omega (arith, from-group p .after2 .ensures), field-room (layout (from-group p) .prefix) (left-prefix p))
 
 left-model : (c : tie.After-put-name-field2)
-    → Left (begun (from-prefix c)) (integer word 0 2147483647 ∷ integer octet 1 3 ∷ []) (model (from-prefix c))
+    → Left (begun (from-prefix c)) (integer quad 0 2147483647 ∷ integer octet 1 3 ∷ []) (model (from-prefix c))
     (c .put-name-field2 .result) (c .put-name-field2 .last .0)
 left-model c = field-step (layout (from-prefix c) .prefix) (left-prefix (c .before .before .before .before)) (c .put-name-field2 .ensures)
 
-word-at-requires : tie.Need-word-at-requires
-word-at-requires c κs = layout (from-prefix (c .before .before .before)) .model .inside
+quad-at-requires : tie.Need-quad-at-requires
+quad-at-requires c κs = layout (from-prefix (c .before .before .before)) .model .inside
 
 put-number-requires : tie.Need-put-number-requires
 put-number-requires c κs =
     let p = c .before .before .before .before in
     let f = field-room (layout (from-prefix p) .model) (left-model p) in
-    rw (c .word-at .ensures .0) (omega (arith, f, p .put-name-field2 .ensures .ends))
+    rw (c .quad-at .ensures .0) (omega (arith, f, p .put-name-field2 .ensures .ends))
 
 left-level : (c : tie.After-put-number)
     → Left (begun (from-model c)) (integer octet 1 3 ∷ []) (model (from-model c) + 4) (c .put-number .result) (c .put-number .last .0)
 left-level c =
-    let e = c .before .word-at .ensures .0 in
+    let e = c .before .quad-at .ensures .0 in
     field-step (layout (from-model c) .model) (left-model (c .before .before .before .before .before)) (rw e at (c .put-number .ensures))
 
 shared-slice-read-count : tie.Need-shared-slice-read-count
 shared-slice-read-count c = omega (arith, layout (from-model (c .before .before .before .before)) .level .inside)
 
-count-requires : tie.Need-count-requires
-count-requires c κs = search needs
-
 put-number-requires-2 : tie.Need-put-number-requires-2
 put-number-requires-2 c κs =
     let p = c .before .before .before .before .before in
     rw (c .count .ensures .0) (field-room (layout (from-model p) .level) (left-level p))
-
-same-length : tie.Need-same-length
-same-length c = search needs
 
 returns : tie.Need-returns
 returns c =
@@ -132,15 +121,15 @@ put-access-key-spec =
     (tie.spec
     after-requires
     after-requires-2
-    add-level
-    slice-aggregate-put-text
+    (λ c. search needs)
+    (λ c. search needs)
     put-text-requires
     put-name-field-requires
     put-name-field-requires-2
-    word-at-requires
+    quad-at-requires
     put-number-requires
     shared-slice-read-count
-    count-requires
+    (λ c κs. search needs)
     put-number-requires-2
-    same-length
+    (λ c. search needs)
     returns)

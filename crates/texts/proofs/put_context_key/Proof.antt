@@ -19,9 +19,6 @@ Left c ks i o w =
 abbrev begun : tie.After-put-text → tie.Start
 begun c = c .before .before .before .before .before
 
-slice-aggregate-put-text : tie.Need-slice-aggregate-put-text
-slice-aggregate-put-text c = search needs
-
 put-text-requires : tie.Need-put-text-requires
 put-text-requires c κs =
     let s = c .before .before .before .before in
@@ -39,9 +36,6 @@ put-name-field-requires c κs =
     let n = context-name (begun p .args .key .now) (begun p .pre .0) in
     (n .inside, field-room n (left-fields p))
 
-same-length : tie.Need-same-length
-same-length c = search needs
-
 returns : tie.Need-returns
 unfolding keyFields
 returns c =
@@ -50,4 +44,4 @@ returns c =
     field-last n (left-fields p) (c .before .before .put-name-field .ensures)
 
 pub put-context-key-spec : {M : Type 1} → statement M
-put-context-key-spec = tie.close (tie.spec slice-aggregate-put-text put-text-requires put-name-field-requires same-length returns)
+put-context-key-spec = tie.close (tie.spec (λ c. search needs) put-text-requires put-name-field-requires (λ c. search needs) returns)

@@ -22,30 +22,18 @@ abbrev μ-loop : tie.MeasureT-loop
 loop-holds : tie.Need-loop-holds Inv-loop μ-loop
 loop-holds c = (start (c .before .before .pre), omega arith)
 
-sub-loop : tie.Need-sub-loop Inv-loop μ-loop
-sub-loop c = search needs
-
-word-at-requires : tie.Need-word-at-requires Inv-loop μ-loop
-word-at-requires c κs = search needs
-
 put-number-requires : tie.Need-put-number-requires Inv-loop μ-loop
 put-number-requires c κs =
     let p = c .before .before .before in
     let e = identifier-next (p .loop .k) (p .before .before .before .args .bytes .now) (omega arith) in
-    dots-room e (p .loop .inv .0) (c .word-at .ensures .0)
-
-add-k : tie.Need-add-k Inv-loop μ-loop
-add-k c = search needs
-
-loop-less : tie.Need-loop-less Inv-loop μ-loop
-loop-less c = search needs
+    dots-room e (p .loop .inv .0) (c .quad-at .ensures .0)
 
 loop-again : tie.Need-loop-again Inv-loop μ-loop
 loop-again c =
     let n = c .before .before .before in
     let p = n .before .before .before in
     let e = identifier-next (p .loop .k) (p .before .before .before .args .bytes .now) (omega arith) in
-    (dots-step e (p .loop .inv .0) (n .word-at .ensures .0) (c .before .before .put-number .ensures), omega arith)
+    (dots-step e (p .loop .inv .0) (n .quad-at .ensures .0) (c .before .before .put-number .ensures), omega arith)
 
 same-length : tie.Need-same-length Inv-loop μ-loop
 same-length c = c .before .loop .inv .0 .kept
@@ -63,11 +51,11 @@ put-dots-words-spec =
     Inv-loop
     μ-loop
     loop-holds
-    sub-loop
-    word-at-requires
+    (λ c. search needs)
+    (λ c κs. search needs)
     put-number-requires
-    add-k
-    loop-less
+    (λ c. search needs)
+    (λ c. search needs)
     loop-again
     same-length
     returns)

@@ -13,34 +13,16 @@ put-octet-requires c κs =
     let s = c .before .before .before .before in
     omega (arith, ap length (dotted-none (s .args .parts .now) (c .before .if1 .taken)), s .pre)
 
-same-length : tie.Need-same-length
-same-length c = search needs
-
 returns : tie.Need-returns
 returns c =
     let b = c .before .before .before .before in
     rw (dotted-none (b .before .before .before .args .parts .now) (b .if1 .taken)) (c .before .before .put-octet .ensures)
-
-shared-slice-read-wide : tie.Need-shared-slice-read-wide
-shared-slice-read-wide c = search needs
-
-wide-requires : tie.Need-wide-requires
-wide-requires c κs = search needs
 
 put-decimal-requires : tie.Need-put-decimal-requires
 put-decimal-requires c κs =
     let b = c .before .before .before in
     let s = b .before .before .before in
     first-room (s .args .at) (s .args .out .now) (first-next (s .args .parts .now) (b .if1 .left)) (s .pre) (c .wide .ensures)
-
-sub-put-dots : tie.Need-sub-put-dots
-sub-put-dots c = search needs
-
-part-put-dots-start : tie.Need-part-put-dots-start
-part-put-dots-start c = search needs
-
-part-put-dots-end : tie.Need-part-put-dots-end
-part-put-dots-end c = search needs
 
 put-dots-requires : tie.Need-put-dots-requires
 put-dots-requires c κs =
@@ -51,9 +33,6 @@ put-dots-requires c κs =
     let e = first-next (s .args .parts .now) (b .if1 .left) in
     rw (tail 1 (s .args .parts .now))
     (rest-room (s .args .at) (s .args .out .now) e (s .pre) (n .wide .ensures) (p .put-decimal .ensures))
-
-same-length-2 : tie.Need-same-length-2
-same-length-2 c = search needs
 
 returns-2 : tie.Need-returns-2
 returns-2 c =
@@ -70,14 +49,14 @@ put-dotted-spec =
     tie.close
     (tie.spec
     put-octet-requires
-    same-length
+    (λ c. search needs)
     returns
-    shared-slice-read-wide
-    wide-requires
+    (λ c. search needs)
+    (λ c κs. search needs)
     put-decimal-requires
-    sub-put-dots
-    part-put-dots-start
-    part-put-dots-end
+    (λ c. search needs)
+    (λ c. search needs)
+    (λ c. search needs)
     put-dots-requires
-    same-length-2
+    (λ c. search needs)
     returns-2)

@@ -4,50 +4,26 @@ use borrow.Author.Needs.{needs}
 use Rattle.texts.proofs.put_key.Statement.{statement}
 use Rattle.texts.proofs.put_key.Tie as tie
 
-enum-told : tie.Need-enum-told
-enum-told c = search needs
-
 put-context-key-requires : tie.Need-put-context-key-requires
 put-context-key-requires c κs = rw (c .before .enum-told .given .1) at (c .before .before .before .before .before .pre)
-
-enum-told-2 : tie.Need-enum-told-2
-enum-told-2 c = search needs
 
 put-mapping-key-requires : tie.Need-put-mapping-key-requires
 put-mapping-key-requires c κs = rw (c .before .enum-told2 .given .1) at (c .before .before .before .before .before .pre)
 
-enum-told-3 : tie.Need-enum-told-3
-enum-told-3 c = search needs
-
 put-access-key-requires : tie.Need-put-access-key-requires
 put-access-key-requires c κs = rw (c .before .enum-told3 .given .1) at (c .before .before .before .before .before .pre)
-
-enum-told-4 : tie.Need-enum-told-4
-enum-told-4 c = search needs
 
 put-view-key-requires : tie.Need-put-view-key-requires
 put-view-key-requires c κs = rw (c .before .enum-told4 .given .1) at (c .before .before .before .before .before .pre)
 
-same-length : tie.Need-same-length
-same-length c = search needs
-
 returns : tie.Need-returns
 returns c = rw (c .before .before .before .before .enum-told .given .1) (c .before .before .put-context-key .ensures)
-
-same-length-2 : tie.Need-same-length-2
-same-length-2 c = search needs
 
 returns-2 : tie.Need-returns-2
 returns-2 c = rw (c .before .before .before .before .enum-told2 .given .1) (c .before .before .put-mapping-key .ensures)
 
-same-length-3 : tie.Need-same-length-3
-same-length-3 c = search needs
-
 returns-3 : tie.Need-returns-3
 returns-3 c = rw (c .before .before .before .before .enum-told3 .given .1) (c .before .before .put-access-key .ensures)
-
-same-length-4 : tie.Need-same-length-4
-same-length-4 c = search needs
 
 returns-4 : tie.Need-returns-4
 returns-4 c = rw (c .before .before .before .before .enum-told4 .given .1) (c .before .before .put-view-key .ensures)
@@ -56,19 +32,19 @@ pub put-key-spec : {M : Type 1} → statement M
 put-key-spec =
     tie.close
     (tie.spec
-    enum-told
+    (λ c. search needs)
     put-context-key-requires
-    enum-told-2
+    (λ c. search needs)
     put-mapping-key-requires
-    enum-told-3
+    (λ c. search needs)
     put-access-key-requires
-    enum-told-4
+    (λ c. search needs)
     put-view-key-requires
-    same-length
+    (λ c. search needs)
     returns
-    same-length-2
+    (λ c. search needs)
     returns-2
-    same-length-3
+    (λ c. search needs)
     returns-3
-    same-length-4
+    (λ c. search needs)
     returns-4)

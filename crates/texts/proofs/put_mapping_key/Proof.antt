@@ -3,7 +3,8 @@ use mathlib.Core.List.{List, [], _∷_}
 use Prim.Native.Nat.{ℕ}
 use borrow.Author.Needs.{needs}
 use Rattle.rows.specs.declared.Table.the-variants.{Mapping}
-use Rattle.rows.specs.Fields.{Field, octet, sequence, values}
+use Rattle.rows.specs.Fields.{Field, sequence, values}
+use Rattle.big_endian.specs.BigEndian.{octet}
 use Rattle.rows.specs.Rows.{keyFields}
 use Rattle.texts.specs.Texts.{keyText}
 use Rattle.texts.proofs.Keys.{Fields, word-room, word-step, field-room, field-step, field-last, MappingKey, mapping-key}
@@ -26,9 +27,6 @@ begun c = c .before .before .before .before .before
 abbrev begun-model : tie.After-put-number → tie.Start
 begun-model c = begun (c .before .before .before .before .before)
 
-slice-aggregate-put-text : tie.Need-slice-aggregate-put-text
-slice-aggregate-put-text c = search needs
-
 put-text-requires : tie.Need-put-text-requires
 put-text-requires c κs =
     let s = c .before .before .before .before in
@@ -39,20 +37,20 @@ left-fields c =
     let s = begun c in
     word-step Mapping (s .args .key .now) (s .args .at) (s .args .out .now) (s .pre .1) (c .put-text .ensures)
 
-word-at-requires : tie.Need-word-at-requires
-word-at-requires c κs = layout (begun (c .before .before .before)) .model .inside
+quad-at-requires : tie.Need-quad-at-requires
+quad-at-requires c κs = layout (begun (c .before .before .before)) .model .inside
 
 put-number-requires : tie.Need-put-number-requires
 unfolding keyFields
 put-number-requires c κs =
     let p = c .before .before .before .before in
-    rw (c .word-at .ensures .0) (field-room (layout (begun p) .model) (left-fields p))
+    rw (c .quad-at .ensures .0) (field-room (layout (begun p) .model) (left-fields p))
 
 left-name : (c : tie.After-put-number)
     → Left (begun-model c) (sequence octet 1 32 ∷ []) 4 (c .put-number .result) (c .put-number .last .0)
 unfolding keyFields
 left-name c =
-    let e = c .before .word-at .ensures .0 in
+    let e = c .before .quad-at .ensures .0 in
     field-step (layout (begun-model c) .model) (left-fields (c .before .before .before .before .before)) (rw e at (c .put-number .ensures))
 
 put-name-field-requires : tie.Need-put-name-field-requires
@@ -60,9 +58,6 @@ put-name-field-requires c κs =
     let p = c .before .before .before in
     let n = layout (begun-model p) .name in
     (n .inside, field-room n (left-name p))
-
-same-length : tie.Need-same-length
-same-length c = search needs
 
 returns : tie.Need-returns
 returns c =
@@ -73,10 +68,10 @@ pub put-mapping-key-spec : {M : Type 1} → statement M
 put-mapping-key-spec =
     tie.close
     (tie.spec
-    slice-aggregate-put-text
+    (λ c. search needs)
     put-text-requires
-    word-at-requires
+    quad-at-requires
     put-number-requires
     put-name-field-requires
-    same-length
+    (λ c. search needs)
     returns)

@@ -12,9 +12,6 @@ put-octet-requires c κs =
     let s = c .before .before .before .before in
     omega (arith, ap length (name-none (s .args .name .now) (c .before .if1 .taken)), s .pre)
 
-same-length : tie.Need-same-length
-same-length c = search needs
-
 returns : tie.Need-returns
 returns c =
     let b = c .before .before .before .before in
@@ -25,9 +22,6 @@ put-hex-requires c κs =
     let s = c .before .before .before .before in
     rw (name-some (s .args .name .now) (c .before .if1 .left)) at (s .pre)
 
-same-length-2 : tie.Need-same-length-2
-same-length-2 c = search needs
-
 returns-2 : tie.Need-returns-2
 returns-2 c =
     let b = c .before .before .before .before in
@@ -36,4 +30,4 @@ returns-2 c =
 pub put-name-spec : {M : Type 1} → statement M
 put-name-spec =
     tie.close
-    (tie.spec put-octet-requires same-length returns put-hex-requires same-length-2 returns-2)
+    (tie.spec put-octet-requires (λ c. search needs) returns put-hex-requires (λ c. search needs) returns-2)

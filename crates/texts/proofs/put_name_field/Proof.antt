@@ -9,30 +9,6 @@ use borrow.Author.Needs.{needs}
 use Rattle.texts.proofs.put_name_field.Statement.{statement}
 use Rattle.texts.proofs.put_name_field.Tie as tie
 
-add-from : tie.Need-add-from
-add-from c = search needs
-
-shared-slice-read-count : tie.Need-shared-slice-read-count
-shared-slice-read-count c = search needs
-
-count-requires : tie.Need-count-requires
-count-requires c κs = search needs
-
-add-end : tie.Need-add-end
-add-end c = search needs
-
-put-octet-requires : tie.Need-put-octet-requires
-put-octet-requires c κs = search needs
-
-sub-put-name : tie.Need-sub-put-name
-sub-put-name c = search needs
-
-part-put-name-start : tie.Need-part-put-name-start
-part-put-name-start c = search needs
-
-part-put-name-end : tie.Need-part-put-name-end
-part-put-name-end c = search needs
-
 put-name-requires : tie.Need-put-name-requires
 put-name-requires c κs =
     let p = c .before .before .before .before in
@@ -40,9 +16,6 @@ put-name-requires c κs =
     let s = p .before .before .before .before .before .before in
     rw (name-part (s .args .key .now) (s .args .i) (n .result) (n .ensures .0))
     (behind (32 ∷ []) (nameText (nameAt (s .args .key .now) (s .args .i))) (s .pre .1) (p .put-octet .ensures))
-
-same-length : tie.Need-same-length
-same-length c = search needs
 
 returns : tie.Need-returns
 returns c =
@@ -56,14 +29,14 @@ pub put-name-field-spec : {M : Type 1} → statement M
 put-name-field-spec =
     tie.close
     (tie.spec
-    add-from
-    shared-slice-read-count
-    count-requires
-    add-end
-    put-octet-requires
-    sub-put-name
-    part-put-name-start
-    part-put-name-end
+    (λ c. search needs)
+    (λ c. search needs)
+    (λ c κs. search needs)
+    (λ c. search needs)
+    (λ c κs. search needs)
+    (λ c. search needs)
+    (λ c. search needs)
+    (λ c. search needs)
     put-name-requires
-    same-length
+    (λ c. search needs)
     returns)

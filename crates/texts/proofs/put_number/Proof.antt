@@ -6,15 +6,6 @@ use borrow.Author.Needs.{needs}
 use Rattle.texts.proofs.put_number.Statement.{statement}
 use Rattle.texts.proofs.put_number.Tie as tie
 
-put-octet-requires : tie.Need-put-octet-requires
-put-octet-requires c κs = search needs
-
-put-decimal-requires : tie.Need-put-decimal-requires
-put-decimal-requires c κs = search needs
-
-same-length : tie.Need-same-length
-same-length c = search needs
-
 returns : tie.Need-returns
 returns c =
     let p = c .before .before .before .before .before .before in
@@ -22,4 +13,4 @@ returns c =
     both (s .args .lead ∷ []) (decimalText (s .args .n)) (s .pre) (p .put-octet .ensures) (c .before .before .put-decimal .ensures)
 
 pub put-number-spec : {M : Type 1} → statement M
-put-number-spec = tie.close (tie.spec put-octet-requires put-decimal-requires same-length returns)
+put-number-spec = tie.close (tie.spec (λ c κs. search needs) (λ c κs. search needs) (λ c. search needs) returns)

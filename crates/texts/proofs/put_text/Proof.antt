@@ -5,19 +5,10 @@ use borrow.Author.Needs.{needs}
 use Rattle.texts.proofs.put_text.Statement.{statement}
 use Rattle.texts.proofs.put_text.Tie as tie
 
-copy-in-requires : tie.Need-copy-in-requires
-copy-in-requires c κs = search needs
-
-add-result : tie.Need-add-result
-add-result c = search needs
-
-same-length : tie.Need-same-length
-same-length c = search needs
-
 returns : tie.Need-returns
 returns c =
     let s = c .before .before .before .before .before .before .args in
     record { lays = c .before .before .copy-in .ensures ∙ laid-paste (s .at) (s .text .now) (s .out .now); ends = refl }
 
 pub put-text-spec : {M : Type 1} → statement M
-put-text-spec = tie.close (tie.spec copy-in-requires add-result same-length returns)
+put-text-spec = tie.close (tie.spec (λ c κs. search needs) (λ c. search needs) (λ c. search needs) returns)

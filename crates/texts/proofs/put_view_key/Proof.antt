@@ -5,7 +5,8 @@ use Prim.Native.Nat.{ℕ}
 use native.Mathlib.Omega.{arith}
 use borrow.Author.Needs.{needs}
 use Rattle.rows.specs.declared.Table.the-variants.{View}
-use Rattle.rows.specs.Fields.{Field, word, sequence, values}
+use Rattle.rows.specs.Fields.{Field, sequence, values}
+use Rattle.big_endian.specs.BigEndian.{quad}
 use Rattle.rows.specs.Rows.{keyFields}
 use Rattle.texts.specs.Texts.{keyText}
 use Rattle.texts.proofs.Keys.{Fields, word-room, word-step, field-room, field-step, field-last, ViewKey, view-key}
@@ -34,12 +35,6 @@ from-name c = from-word (c .before .before .before .before)
 after-requires : tie.Need-after-requires
 after-requires c κs = view-key (c .before .before .args .key .now) _ refl (c .before .before .pre .0) .name .inside
 
-add-subtree : tie.Need-add-subtree
-add-subtree c = search needs
-
-slice-aggregate-put-text : tie.Need-slice-aggregate-put-text
-slice-aggregate-put-text c = search needs
-
 put-text-requires : tie.Need-put-text-requires
 put-text-requires c κs =
     let s = c .before .before .before .before .before in
@@ -57,7 +52,7 @@ put-name-field-requires c κs =
     (omega (arith, from-word p .after .ensures), field-room (layout (from-word p) .name) (left-fields p))
 
 left-subtree : (c : tie.After-put-name-field)
-    → Left (begun (from-name c)) (sequence word 1 64 ∷ []) (from-name c .after .result) (c .put-name-field .result) (c .put-name-field .last .0)
+    → Left (begun (from-name c)) (sequence quad 1 64 ∷ []) (from-name c .after .result) (c .put-name-field .result) (c .put-name-field .last .0)
 unfolding keyFields
 left-subtree c = field-step (layout (from-name c) .name) (left-fields (c .before .before .before .before)) (c .put-name-field .ensures)
 
@@ -65,9 +60,6 @@ put-subtree-field-requires : tie.Need-put-subtree-field-requires
 put-subtree-field-requires c κs =
     let p = c .before .before .before in
     (layout (from-name p) .room, field-room (layout (from-name p) .subtree) (left-subtree p))
-
-same-length : tie.Need-same-length
-same-length c = search needs
 
 returns : tie.Need-returns
 returns c =
@@ -79,10 +71,10 @@ put-view-key-spec =
     tie.close
     (tie.spec
     after-requires
-    add-subtree
-    slice-aggregate-put-text
+    (λ c. search needs)
+    (λ c. search needs)
     put-text-requires
     put-name-field-requires
     put-subtree-field-requires
-    same-length
+    (λ c. search needs)
     returns)

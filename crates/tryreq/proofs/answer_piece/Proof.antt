@@ -33,17 +33,8 @@ loop-holds c = let s = c .before .before .before .before in (
 answer-lines-requires : tie.Need-answer-lines-requires Inv-loop μ-loop
 answer-lines-requires c κs = let i = c .before .before .before .before .loop .inv in let s = c .before .before .before .before .before .before .before .before .before in (s .pre .0, (i .0, omega (arith, i .2, s .pre .1 .1)))
 
-sub-write-all : tie.Need-sub-write-all Inv-loop μ-loop
-sub-write-all c = search needs
-
-part-write-all-start : tie.Need-part-write-all-start Inv-loop μ-loop
-part-write-all-start c = search needs
-
 part-write-all-end : tie.Need-part-write-all-end Inv-loop μ-loop
 part-write-all-end c = c .before .before .before .before .before .answer-lines .ensures .0 .ready .used-in
-
-write-all-requires : tie.Need-write-all-requires Inv-loop μ-loop
-write-all-requires c κs = search needs
 
 loop-less : tie.Need-loop-less Inv-loop μ-loop
 loop-less c =
@@ -81,10 +72,10 @@ answer-piece-spec =
     μ-loop
     loop-holds
     answer-lines-requires
-    sub-write-all
-    part-write-all-start
+    (λ c. search needs)
+    (λ c. search needs)
     part-write-all-end
-    write-all-requires
+    (λ c κs. search needs)
     loop-less
     loop-again
     same-length

@@ -24,27 +24,6 @@ part-most c = simp length-take (omega (arith, c .before .before .before .before 
 loop-holds : tie.Need-loop-holds Inv-loop μ-loop
 loop-holds c = (refl, refl, refl, omega arith, one-line-nil .runs, omega arith)
 
-slice-aggregate-read : tie.Need-slice-aggregate-read Inv-loop μ-loop
-slice-aggregate-read c = search needs
-
-read-requires : tie.Need-read-requires Inv-loop μ-loop
-read-requires c κs = search needs
-
-slice-aggregate-count : tie.Need-slice-aggregate-count Inv-loop μ-loop
-slice-aggregate-count c = search needs
-
-count-requires : tie.Need-count-requires Inv-loop μ-loop
-count-requires c κs = search needs
-
-sub-answer-piece : tie.Need-sub-answer-piece Inv-loop μ-loop
-sub-answer-piece c = search needs
-
-part-answer-piece-start : tie.Need-part-answer-piece-start Inv-loop μ-loop
-part-answer-piece-start c = search needs
-
-part-answer-piece-end : tie.Need-part-answer-piece-end Inv-loop μ-loop
-part-answer-piece-end c = search needs
-
 slice-aggregate-answer-piece : tie.Need-slice-aggregate-answer-piece Inv-loop μ-loop
 slice-aggregate-answer-piece c = sym (c .before .before .before .before .before .before .before .before .before .before .loop .inv .1)
 
@@ -58,12 +37,6 @@ answer-piece-requires c κs =
     let l = t .before in
     let i = l .loop .inv in
     (l .before .before .pre, ((i .1, i .3, i .4), (omega (arith, part-most n, i .5, t .loop-test .taken), omega (arith, i .2))))
-
-sub-reads : tie.Need-sub-reads Inv-loop μ-loop
-sub-reads c = search needs
-
-loop-less : tie.Need-loop-less Inv-loop μ-loop
-loop-less c = search needs
 
 loop-again : tie.Need-loop-again Inv-loop μ-loop
 loop-again c = let i = c .before .before .before .before .before .before .before .before .before .before .before .before .before .before .loop .inv in
@@ -85,20 +58,8 @@ slice-aggregate-answer-last-2 c = sym (c .before .before .before .loop .inv .2)
 answer-last-requires : tie.Need-answer-last-requires Inv-loop μ-loop
 answer-last-requires c κs = let i = c .before .before .before .loop .inv in (c .before .before .before .before .before .pre, ((omega (arith, i .1, i .3), i .4), (omega (arith, i .2), omega (arith, i .5))))
 
-sub-write-all : tie.Need-sub-write-all Inv-loop μ-loop
-sub-write-all c = search needs
-
-part-write-all-start : tie.Need-part-write-all-start Inv-loop μ-loop
-part-write-all-start c = search needs
-
 part-write-all-end : tie.Need-part-write-all-end Inv-loop μ-loop
 part-write-all-end c = c .before .before .answer-last .ensures .1
-
-write-all-requires : tie.Need-write-all-requires Inv-loop μ-loop
-write-all-requires c κs = search needs
-
-returns : tie.Need-returns Inv-loop μ-loop
-returns c = search needs
 
 pub serve-spec : {M : Type 1} → statement M
 serve-spec =
@@ -107,24 +68,24 @@ serve-spec =
     Inv-loop
     μ-loop
     loop-holds
-    slice-aggregate-read
-    read-requires
-    slice-aggregate-count
-    count-requires
-    sub-answer-piece
-    part-answer-piece-start
-    part-answer-piece-end
+    (λ c. search needs)
+    (λ c κs. search needs)
+    (λ c. search needs)
+    (λ c κs. search needs)
+    (λ c. search needs)
+    (λ c. search needs)
+    (λ c. search needs)
     slice-aggregate-answer-piece
     slice-aggregate-answer-piece-2
     answer-piece-requires
-    sub-reads
-    loop-less
+    (λ c. search needs)
+    (λ c. search needs)
     loop-again
     slice-aggregate-answer-last
     slice-aggregate-answer-last-2
     answer-last-requires
-    sub-write-all
-    part-write-all-start
+    (λ c. search needs)
+    (λ c. search needs)
     part-write-all-end
-    write-all-requires
-    returns)
+    (λ c κs. search needs)
+    (λ c. search needs))

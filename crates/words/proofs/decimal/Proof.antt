@@ -21,12 +21,6 @@ returns c = sym (decimal-empty _ (c .if1 .taken))
 loop-holds : tie.Need-loop-holds Inv-loop μ-loop
 loop-holds c = reading-start _ (omega arith)
 
-shared-slice-read-wide : tie.Need-shared-slice-read-wide Inv-loop μ-loop
-shared-slice-read-wide c = search needs
-
-wide-requires : tie.Need-wide-requires Inv-loop μ-loop
-wide-requires c κs = search needs
-
 returns-2 : tie.Need-returns-2 Inv-loop μ-loop
 returns-2 c = let a = c .before in
     sym (reading-low (a .before .before .before .loop .inv) (a .before .before .loop-test .taken) _ (a .wide .ensures .0) (c .if2 .taken))
@@ -34,9 +28,6 @@ returns-2 c = let a = c .before in
 returns-3 : tie.Need-returns-3 Inv-loop μ-loop
 returns-3 c = let a = c .before .before in
     sym (reading-high (a .before .before .before .loop .inv) (a .before .before .loop-test .taken) _ (a .wide .ensures .0) (c .if3 .taken))
-
-mul-n : tie.Need-mul-n Inv-loop μ-loop
-mul-n c = search needs
 
 add-n : tie.Need-add-n Inv-loop μ-loop
 add-n c = omega (arith, c .before .before .wide .ensures .1)
@@ -47,19 +38,10 @@ returns-4 c = let a = c .before .before .before in
     (reading-large (a .before .before .before .loop .inv) (a .before .before .loop-test .taken) _ (a .wide .ensures .0) (c .before .before .if2 .left) (c .before .if3 .left)
     (omega arith))
 
-add-i : tie.Need-add-i Inv-loop μ-loop
-add-i c = search needs
-
-loop-less : tie.Need-loop-less Inv-loop μ-loop
-loop-less c = search needs
-
 loop-again : tie.Need-loop-again Inv-loop μ-loop
 loop-again c = let a = c .before .before .before in
     reading-next (a .before .before .before .loop .inv) (a .before .before .loop-test .taken) _ (a .wide .ensures .0) (c .before .before .if2 .left) (c .before .if3 .left)
     (omega arith)
-
-cast-t13 : tie.Need-cast-t13 Inv-loop μ-loop
-cast-t13 c = search needs
 
 returns-5 : tie.Need-returns-5 Inv-loop μ-loop
 returns-5 c = sym (reading-end (c .before .loop .inv) (c .loop-test .left))
@@ -72,15 +54,15 @@ decimal-spec =
     μ-loop
     returns
     loop-holds
-    shared-slice-read-wide
-    wide-requires
+    (λ c. search needs)
+    (λ c κs. search needs)
     returns-2
     returns-3
-    mul-n
+    (λ c. search needs)
     add-n
     returns-4
-    add-i
-    loop-less
+    (λ c. search needs)
+    (λ c. search needs)
     loop-again
-    cast-t13
+    (λ c. search needs)
     returns-5)

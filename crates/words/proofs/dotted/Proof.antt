@@ -37,35 +37,11 @@ room c =
     let h = part-some _ (l .loop .at) (f .end-of .result) _ (part c) in
     omega (arith, l .before .before .before .before .before .pre, f .end-of .ensures .1)
 
-is-dash-requires : tie.Need-is-dash-requires Inv-loop μ-loop
-is-dash-requires c κs = search needs
-
 returns : tie.Need-returns Inv-loop μ-loop
 returns c = dotted-dash _ _ (sym (c .before .is-dash .ensures) ∙ c .if1 .taken)
 
 loop-holds : tie.Need-loop-holds Inv-loop μ-loop
 loop-holds c = (omega arith, omega arith, refl, reads-start _ _)
-
-end-of-requires : tie.Need-end-of-requires Inv-loop μ-loop
-end-of-requires c κs = search needs
-
-sub-decimal : tie.Need-sub-decimal Inv-loop μ-loop
-sub-decimal c = search needs
-
-part-decimal-start : tie.Need-part-decimal-start Inv-loop μ-loop
-part-decimal-start c = search needs
-
-part-decimal-end : tie.Need-part-decimal-end Inv-loop μ-loop
-part-decimal-end c = search needs
-
-decimal-requires : tie.Need-decimal-requires Inv-loop μ-loop
-decimal-requires c κs = search needs
-
-enum-known-x : tie.Need-enum-known-x Inv-loop μ-loop
-enum-known-x c = search needs
-
-enum-told : tie.Need-enum-told Inv-loop μ-loop
-enum-told c = search needs
 
 same-length : tie.Need-same-length Inv-loop μ-loop
 same-length c = c .before .before .before .before .before .loop .inv .2
@@ -98,9 +74,6 @@ returns-3 c = let f = c .before .before .before .before .before .before in
     rw (named (l .before))
     (reads-end (reads-next (l .loop .inv .3) _ (some []) (dots-last _ (l .loop .at) _ (f .end-of .ensures .0) e) (part (c .before)) (room (c .before))) refl)
 
-loop-less : tie.Need-loop-less Inv-loop μ-loop
-loop-less c = search needs
-
 loop-again : tie.Need-loop-again Inv-loop μ-loop
 loop-again c = let f = c .before .before .before .before .before .before in
     let l = f .before in
@@ -118,16 +91,16 @@ dotted-spec =
     (tie.spec
     Inv-loop
     μ-loop
-    is-dash-requires
+    (λ c κs. search needs)
     returns
     loop-holds
-    end-of-requires
-    sub-decimal
-    part-decimal-start
-    part-decimal-end
-    decimal-requires
-    enum-known-x
-    enum-told
+    (λ c κs. search needs)
+    (λ c. search needs)
+    (λ c. search needs)
+    (λ c. search needs)
+    (λ c κs. search needs)
+    (λ c. search needs)
+    (λ c. search needs)
     same-length
     returns-2
     mul-out
@@ -136,5 +109,5 @@ dotted-spec =
     add-at
     same-length-2
     returns-3
-    loop-less
+    (λ c. search needs)
     loop-again)

@@ -31,17 +31,11 @@ octet c = number-is _ (c .before .x .given .1) (c .before .before .before .hex-p
 returns : tie.Need-returns Inv-loop μ-loop
 returns c = hex-empty _ _ (c .if1 .taken)
 
-is-dash-requires : tie.Need-is-dash-requires Inv-loop μ-loop
-is-dash-requires c κs = search needs
-
 returns-2 : tie.Need-returns-2 Inv-loop μ-loop
 returns-2 c = hex-dash _ _ (sym (c .before .is-dash .ensures) ∙ c .if2 .taken)
 
 loop-holds : tie.Need-loop-holds Inv-loop μ-loop
 loop-holds c = (omega arith, omega arith, refl, reads-start _ _)
-
-add-j : tie.Need-add-j Inv-loop μ-loop
-add-j c = search needs
 
 same-length : tie.Need-same-length Inv-loop μ-loop
 same-length c = c .before .before .loop .inv .2
@@ -49,21 +43,6 @@ same-length c = c .before .before .loop .inv .2
 returns-3 : tie.Need-returns-3 Inv-loop μ-loop
 returns-3 c = let l = c .before .before .loop in
     rw (paired (c .before .before .before)) (reads-none (l .inv .3) (pairs-odd _ (l .i) (c .if3 .taken)))
-
-shared-slice-read-hex-pair : tie.Need-shared-slice-read-hex-pair Inv-loop μ-loop
-shared-slice-read-hex-pair c = search needs
-
-shared-slice-read-hex-pair-2 : tie.Need-shared-slice-read-hex-pair-2 Inv-loop μ-loop
-shared-slice-read-hex-pair-2 c = search needs
-
-hex-pair-requires : tie.Need-hex-pair-requires Inv-loop μ-loop
-hex-pair-requires c κs = search needs
-
-enum-known-x : tie.Need-enum-known-x Inv-loop μ-loop
-enum-known-x c = search needs
-
-enum-told : tie.Need-enum-told Inv-loop μ-loop
-enum-told c = search needs
 
 same-length-2 : tie.Need-same-length-2 Inv-loop μ-loop
 same-length-2 c = c .before .before .before .before .before .before .before .loop .inv .2
@@ -77,18 +56,6 @@ returns-4 c = let a = c .before .before in
 
 cast-out : tie.Need-cast-out Inv-loop μ-loop
 cast-out c = omega (arith, joined-below _ _ _ (octet c))
-
-slice-write-out : tie.Need-slice-write-out Inv-loop μ-loop
-slice-write-out c = search needs
-
-add-n : tie.Need-add-n Inv-loop μ-loop
-add-n c = search needs
-
-add-i : tie.Need-add-i Inv-loop μ-loop
-add-i c = search needs
-
-loop-less : tie.Need-loop-less Inv-loop μ-loop
-loop-less c = search needs
 
 loop-again : tie.Need-loop-again Inv-loop μ-loop
 loop-again c = let f = c .before .before .before .before .before .before in
@@ -111,24 +78,24 @@ hex-octets-spec =
     Inv-loop
     μ-loop
     returns
-    is-dash-requires
+    (λ c κs. search needs)
     returns-2
     loop-holds
-    add-j
+    (λ c. search needs)
     same-length
     returns-3
-    shared-slice-read-hex-pair
-    shared-slice-read-hex-pair-2
-    hex-pair-requires
-    enum-known-x
-    enum-told
+    (λ c. search needs)
+    (λ c. search needs)
+    (λ c κs. search needs)
+    (λ c. search needs)
+    (λ c. search needs)
     same-length-2
     returns-4
     cast-out
-    slice-write-out
-    add-n
-    add-i
-    loop-less
+    (λ c. search needs)
+    (λ c. search needs)
+    (λ c. search needs)
+    (λ c. search needs)
     loop-again
     same-length-3
     returns-5)

@@ -14,26 +14,8 @@ high c = number-is _ (c .before .h .given .1) (c .before .before .before .hex-di
 low : (c : tie.After-known-told2) → hexDigit (c .before .before .before .before .before .before .before .before .args .b) ≡ some (c .before .l .given .0 .0)
 low c = number-is _ (c .before .l .given .1) (c .before .before .before .hex-digit2 .ensures)
 
-hex-digit-requires : tie.Need-hex-digit-requires
-hex-digit-requires c κs = search needs
-
-enum-known-h : tie.Need-enum-known-h
-enum-known-h c = search needs
-
-enum-told : tie.Need-enum-told
-enum-told c = search needs
-
 returns : tie.Need-returns
 returns c = let e = number-bad (c .enum-told .given .1) (c .before .before .hex-digit .ensures) in sym (rw e)
-
-hex-digit-requires-2 : tie.Need-hex-digit-requires-2
-hex-digit-requires-2 c κs = search needs
-
-enum-known-l : tie.Need-enum-known-l
-enum-known-l c = search needs
-
-enum-told-2 : tie.Need-enum-told-2
-enum-told-2 c = search needs
 
 returns-2 : tie.Need-returns-2
 returns-2 c = let e = number-bad (c .enum-told2 .given .1) (c .before .before .hex-digit2 .ensures) in sym (rw (high (c .before .before .before), e))
@@ -51,13 +33,13 @@ pub hex-pair-spec : {M : Type 1} → statement M
 hex-pair-spec =
     tie.close
     (tie.spec
-    hex-digit-requires
-    enum-known-h
-    enum-told
+    (λ c κs. search needs)
+    (λ c. search needs)
+    (λ c. search needs)
     returns
-    hex-digit-requires-2
-    enum-known-l
-    enum-told-2
+    (λ c κs. search needs)
+    (λ c. search needs)
+    (λ c. search needs)
     returns-2
     mul-t7
     add-t8

@@ -4,9 +4,6 @@ use Rattle.words.proofs.Words.{dash-one, dash-other}
 use Rattle.words.proofs.is_dash.Statement.{statement}
 use Rattle.words.proofs.is_dash.Tie as tie
 
-shared-slice-read-result : tie.Need-shared-slice-read-result
-shared-slice-read-result c = search needs
-
 returns : tie.Need-returns
 returns c = dash-one _ (c .before .if1 .taken)
 
@@ -14,4 +11,4 @@ returns-2 : tie.Need-returns-2
 returns-2 c = dash-other _ (c .if1 .left)
 
 pub is-dash-spec : {M : Type 1} → statement M
-is-dash-spec = tie.close (tie.spec shared-slice-read-result returns returns-2)
+is-dash-spec = tie.close (tie.spec (λ c. search needs) returns returns-2)

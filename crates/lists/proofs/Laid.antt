@@ -9,7 +9,7 @@ use native.Mathlib.Numerals.{add-one}
 use native.Mathlib.Omega.{arith}
 use lib.ListN.{length, take, drop, set, getD, length-append, length-drop, take-append-drop, drop-of-length-le}
 use lib.Seq.{length-take-le, take-at, drop-at, drop-drop, take-add, take-all, drop-cons, set-split, sets, sets-eq}
-use Rattle.instance.specs.Buffers.{laid}
+use Rattle.lists.specs.Laid.{laid}
 
 pub laid-nil : (at : ℕ) (w : List ℕ) → laid at [] w ≡ w
 laid-nil at w = rw (add-zero at) (take-append-drop at w)
