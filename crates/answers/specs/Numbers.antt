@@ -5,7 +5,8 @@ use Rattle.answers.specs.declared.Cause.the-variants.{NoSuchContext, NoG
 use Rattle.answers.specs.declared.Decision.{Decision}
 use Rattle.answers.specs.declared.Decision.the-variants.{Allowed, Refused}
 use Rattle.answers.specs.declared.Fault.{Fault}
-use Rattle.answers.specs.declared.Fault.the-variants.{NotSound, OutOfRange, TableFull, RowAbsent, StorageForbids, ContextTable, NotAnInstance, Torn, NotAscending, TooShort}
+use Rattle.answers.specs.declared.Fault.the-variants.{NotSound, OutOfRange, TableFull, RowAbsent, StorageForbids, ContextTable, NotAnInstance, Torn}
+use Rattle.answers.specs.declared.Fault.the-variants.{NotAscending, TooShort}
 use Rattle.answers.specs.declared.Answer.{Answer}
 use Rattle.answers.specs.declared.Answer.the-variants.{Decided, Faulty}
 use Rattle.answers.specs.declared.Written.{Written}

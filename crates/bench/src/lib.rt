@@ -1,14 +1,15 @@
-// The calls on a store under C names, for the benchmark to measure beside another implementation. An agent in C links the crate `agent`.
+// The calls on a store under C names, for the benchmark to measure beside another implementation. An agent in C links the crate `dugwalen`.
 use answers::Written;
+use image::ROOM;
 use rows::Table;
 ghost use mathlib.Core.Path.{_≡_};
 ghost use Rattle.answers.specs.Numbers.{answerNumber};
 ghost use Rattle.image.specs.Store.{held};
-ghost use Rattle.procedure.specs.Request.{asked};
-ghost use Rattle.procedure.specs.Decision.{answer};
-ghost use Rattle.edits.specs.Edits.{put, remove};
+ghost use Rattle.decision_steps.specs.Request.{asked};
+ghost use Rattle.decision_steps.specs.Decision.{answer};
+ghost use Rattle.edit_rules.specs.Edits.{put, remove};
 ghost use Rattle.edits.specs.Calls.{editedNumber, OwnerEdits};
-ghost use Rattle.imaging.specs.Imaging.{loadedNumber, Reads, Writes};
+ghost use Rattle.image_transfer.specs.Transfer.{loadedNumber, Reads, Writes};
 ghost use Rattle.bench.specs.Measured.{tableNumbered, lengthNumber, Numbered};
 
 fn table_numbered(n: u32) -> Table
@@ -45,7 +46,8 @@ pub extern "C" fn bench_decide(
     context: &[u8],
     variable: &[u32],
 ) -> u32
-    ensures { λ r. ⌜ r ≡ answerNumber (answer (held (now (store .entry))) (asked model (now (name .entry)) level «view_type» (now (context .entry)) (now (variable .entry)))) ⌝ }
+    ensures { λ r. ⌜ r ≡ answerNumber (answer (held (now (store .entry)))
+        (asked model (now (name .entry)) level «view_type» (now (context .entry)) (now (variable .entry)))) ⌝ }
 {
     answers::answer_number(decision::is_access_allowed(
         store,
@@ -73,15 +75,15 @@ pub extern "C" fn bench_owner_remove(store: &mut [u8], table: u32, key: &[u8]) -
 }
 
 #[no_mangle]
-pub extern "C" fn bench_read_image(image: &[u8], store: &mut [u8; 46456]) -> u32
+pub extern "C" fn bench_read_image(image: &[u8], store: &mut [u8; ROOM]) -> u32
     ensures { λ r. ⌜ Numbered loadedNumber (Reads (now (image .entry)) (now (store .entry)) (now (store .exit))) r ⌝ }
 {
-    imaging::loaded_number(imaging::read_image(image, store))
+    image_transfer::loaded_number(image_transfer::read_image(image, store))
 }
 
 #[no_mangle]
 pub extern "C" fn bench_write_image(store: &[u8], out: &mut [u8]) -> u64
     ensures { λ r. ⌜ Numbered lengthNumber (Writes (held (now (store .entry))) (now (out .entry)) (now (out .exit))) r ⌝ }
 {
-    length_number(imaging::write_image(store, out))
+    length_number(image_transfer::write_image(store, out))
 }

@@ -1,41 +1,46 @@
 -- What the steps answer by what the code finds.
--- A row chosen is at its place or there is none (`row-at`, `row-none`). Each step's definition answers by cases on what was chosen, and the
--- security name counts no more once the principal's group is known. A store that is not sound has no layout; of a sound one it is that of the
--- image at its front. Assumes nothing.
+-- A row chosen is at its place or there is none (`row-at`, `row-none`). Each step goes on with what it finds and refuses where that is nothing, so one
+-- law a step says what it answers of either. A store that is not sound has no layout; of a sound one it is that of the image at its front.
+-- Assumes nothing.
 use mathlib.Core.Path.{_≡_, refl, sym, ap, _∙_}
-use mathlib.Core.Bool.{Bool, true, false, cond, _&&_}
-use mathlib.Core.List.{List, [], _∷_, map}
+use mathlib.Core.Bool.{true, false, _&&_}
+use mathlib.Core.List.{List, [], _∷_, _++_, map}
 use mathlib.Core.Option.{Option, none, some}
-use Prim.Native.Nat.{ℕ, _≤_}
+use Prim.Native.Nat.{ℕ, _-_, _*_, _≤_, _<_}
 use native.Mathlib.Omega.{arith}
 use lib.Dec.{leb}
-use lib.ListN.{length}
+use lib.ListN.{length, take, getD, length-append}
+use lib.Seq.{take-at}
 use Rattle.answers.specs.declared.Answer.the-variants.{Decided, Faulty}
 use Rattle.answers.specs.declared.Cause.the-variants.{NoSuchContext, NoGroupName, NoAccessEntry, NoSuchView, NotInView}
+use Rattle.answers.specs.declared.Decision.{Decision}
 use Rattle.answers.specs.declared.Decision.the-variants.{Refused}
 use Rattle.answers.specs.declared.Fault.{Fault}
 use Rattle.answers.specs.declared.Fault.the-variants.{NotSound, OutOfRange}
 use Rattle.lists.specs.Lists.{keep, any, find}
 use Rattle.lists.proofs.Bools.{clash, and-right}
 use Rattle.lists.proofs.Keeps.{any-keep, keep-any}
+use Rattle.big_endian.specs.BigEndian.{quad, bytesOf}
+use Rattle.big_endian.proofs.BigEndian.{length-bytesOf}
 use Rattle.rows.specs.declared.Table.{Table}
-use Rattle.rows.specs.Rows.{MappingRow, AccessRow, ViewRow, contextOf, mappingOf, accessOf, viewOf}
+use Rattle.rows.specs.Rows.{ContextRow, MappingRow, AccessRow, ViewRow, contextOf, mappingOf, accessOf, viewOf, modelMax}
 use Rattle.rows.specs.Fields.{within}
-use Rattle.rows.specs.Tables.{Tables}
 use Rattle.rows.proofs.Sound.{within-most}
-use Rattle.image.specs.declared.Layout.{Layout}
-use Rattle.image.specs.declared.Surveyed.the-variants.{Laid, Bad}
-use Rattle.image.specs.Layout.{rowsIn, layoutOf}
-use Rattle.image.specs.Image.{SoundLayout, tablesAt, surveyed}
-use Rattle.image.specs.Store.{isSound, storeFault, held}
-use Rattle.image.proofs.Walks.{piece}
-use Rattle.image.proofs.Surveys.{sound-layout}
-use Rattle.procedure.specs.Request.{Request, asked, legalRequest}
-use Rattle.procedure.specs.Decision.{bearsContext, mapsPrincipal, chosenAccess, viewFor, inView, chosenView, viewRows, step5, step4, step3, step2, decision, answer}
-use Rattle.procedure.specs.Bytes.{Whole}
-use Rattle.decision.specs.declared.Found.{Found}
-use Rattle.decision.specs.declared.Found.the-variants.{Row, Nothing}
-use Rattle.decision.specs.Found.{Chosen}
+use Rattle.image_layout.specs.declared.Layout.{Layout}
+use Rattle.image_judge.specs.declared.Surveyed.the-variants.{Laid, Bad}
+use Rattle.image_layout.specs.Layout.{rowsIn, layoutOf}
+use Rattle.image_judge.specs.Faults.{SoundLayout, tablesAt, surveyed}
+use Rattle.image.specs.Store.{storeFault, held}
+use Rattle.image_layout.proofs.Walks.{piece}
+use Rattle.image.proofs.Surveys.{sound-layout, store-laid, store-bad}
+use Rattle.decision_steps.specs.Request.{Request, asked, legalRequest, longestName, noAuthNoPriv, authPriv, read, notify, mostParts}
+use Rattle.decision_steps.specs.Decision.{bearsContext, mapsPrincipal, chosenAccess, viewFor, inView, chosenView, viewRows, orRefused, byType, ifAny, step5}
+use Rattle.decision_steps.specs.Decision.{step4, step3, step2, decision, answerOn, answer}
+use Rattle.decision_steps.specs.Bytes.{Whole, identifier}
+use Rattle.decision_steps.proofs.Identifiers.{identifier-bytesOf}
+use Rattle.decision_find.specs.declared.Found.{Found}
+use Rattle.decision_find.specs.declared.Found.the-variants.{Row, Nothing}
+use Rattle.decision_find.specs.Found.{Chosen}
 
 -- ---- a row chosen
 
@@ -57,10 +62,15 @@ module _ {R : Type 0} {t : Table} {of : List ℕ → R} {w : List ℕ} {found : 
 
 -- ---- steps 4 and 5
 
--- of no rows and of some
-step4-some : (variable : List ℕ) (rs : List ViewRow) → (rs ≡ [] → ⊥) → step5 (chosenView variable rs) ≡ step4 variable rs
-step4-some variable [] h = absurd (h refl)
-step4-some variable (r ∷ rs) h = refl
+-- by the rows of the view
+byRows : List ℕ → List ViewRow → Decision
+byRows variable rs = orRefused NoSuchView (ifAny rs) (step5 variable)
+
+-- of some rows
+rows-some : (variable : List ℕ) (rs : List ViewRow) → (rs ≡ [] → ⊥) → step5 variable rs ≡ byRows variable rs
+unfolding byRows
+rows-some variable [] h = absurd (h refl)
+rows-some variable (r ∷ rs) h = refl
 
 -- a name that is not empty names a view
 view-named : (name : List ℕ) (rs : List ViewRow) → (length name ≡ 0 → ⊥) → keep (inView name) rs ≡ viewRows name rs
@@ -73,109 +83,79 @@ unnamed [] rs e = refl
 unnamed (x ∷ name) rs e = absurd (omega arith)
 
 module _ (variable name : List ℕ) (rs : List ViewRow) where
-  pub view-unnamed : length name ≡ 0 → Refused NoSuchView ≡ step4 variable (viewRows name rs)
-  view-unnamed e = ap (step4 variable) (unnamed name rs e)
+  pub view-unnamed : length name ≡ 0 → Refused NoSuchView ≡ step4 variable name rs
+  unfolding byRows
+  view-unnamed e = ap (byRows variable) (unnamed name rs e)
 
   module _ (h : length name ≡ 0 → ⊥) where
-    pub view-empty : any (inView name) rs ≡ false → Refused NoSuchView ≡ step4 variable (viewRows name rs)
-    view-empty e = ap (step4 variable) (sym (any-keep (inView name) rs e) ∙ view-named name rs h)
+    pub view-empty : any (inView name) rs ≡ false → Refused NoSuchView ≡ step4 variable name rs
+    unfolding byRows
+    view-empty e = ap (byRows variable) (sym (any-keep (inView name) rs e) ∙ view-named name rs h)
 
-    view-chosen : any (inView name) rs ≡ true → step5 (chosenView variable (keep (inView name) rs)) ≡ step4 variable (viewRows name rs)
-    view-chosen e =
-        step4-some variable (keep (inView name) rs) (λ n. clash e (keep-any (inView name) rs n))
-        ∙ ap (step4 variable) (view-named name rs h)
+    -- the view has rows, and a choice of them
+    pub view-step : any (inView name) rs ≡ true → {o : Option ViewRow} → chosenView variable (keep (inView name) rs) ≡ o
+        → orRefused NotInView o byType ≡ step4 variable name rs
+    unfolding byRows
+    view-step e c =
+        sym (ap (λ o. orRefused NotInView o byType) c)
+        ∙ rows-some variable (keep (inView name) rs) (λ n. clash e (keep-any (inView name) rs n))
+        ∙ ap (byRows variable) (view-named name rs h)
 
-    pub view-unmatched : any (inView name) rs ≡ true → chosenView variable (keep (inView name) rs) ≡ none
-        → Refused NotInView ≡ step4 variable (viewRows name rs)
-    view-unmatched e n = sym (ap step5 n) ∙ view-chosen e
-
-    pub view-matched : any (inView name) rs ≡ true → {r : ViewRow} → chosenView variable (keep (inView name) rs) ≡ some r
-        → step5 (some r) ≡ step4 variable (viewRows name rs)
-    view-matched e n = sym (ap step5 n) ∙ view-chosen e
-
--- ---- the steps together
-
--- step 3 does not look at the name
-step3-name : (o : Option AccessRow) (model : ℕ) (a b : List ℕ) (level view : ℕ) (context variable : List ℕ) (t : Tables)
-    → step3 o (asked model a level view context variable) t ≡ step3 o (asked model b level view context variable) t
-step3-name none model a b level view context variable t = refl
-step3-name (some r) model a b level view context variable t = refl
+-- ---- steps 1 to 3
 
 module _ (w : List ℕ) (l : Layout) (model : ℕ) (name : List ℕ) (level view : ℕ) (context variable : List ℕ) where
   abbrev q : Request
   q = asked model name level view context variable
 
-  -- the principal's group is known
-  module _ (m : MappingRow) where
-    pub access-none : chosenAccess (m .groupName) model level context (map accessOf (rowsIn w (l .accesses))) ≡ none
-        → Refused NoAccessEntry ≡ step2 (some m) q (tablesAt w l)
-    unfolding tablesAt
-    access-none e = sym (ap (λ o. step3 o q (tablesAt w l)) e)
+  pub access-step : (group : List ℕ) {o : Option AccessRow} → chosenAccess group model level context (map accessOf (rowsIn w (l .accesses))) ≡ o
+      → orRefused NoAccessEntry o (λ a. step4 variable (viewFor view a) (map viewOf (rowsIn w (l .views)))) ≡ step3 group q (tablesAt w l)
+  unfolding tablesAt
+  access-step group e = sym (ap (λ o. orRefused NoAccessEntry o (λ a. step4 variable (viewFor view a) (map viewOf (rowsIn w (l .views))))) e)
 
-    pub access-some : {a : AccessRow} → chosenAccess (m .groupName) model level context (map accessOf (rowsIn w (l .accesses))) ≡ some a
-        → step4 variable (viewRows (viewFor view a) (map viewOf (rowsIn w (l .views)))) ≡ step2 (some m) q (tablesAt w l)
-    unfolding tablesAt
-    access-some e = sym (ap (λ o. step3 o q (tablesAt w l)) e)
+  pub group-step : {o : Option MappingRow} → find (mapsPrincipal model name) (map mappingOf (rowsIn w (l .mappings))) ≡ o
+      → orRefused NoGroupName o (λ m. step3 (m .groupName) q (tablesAt w l)) ≡ step2 q (tablesAt w l)
+  unfolding tablesAt
+  group-step e = sym (ap (λ o. orRefused NoGroupName o (λ m. step3 (m .groupName) q (tablesAt w l))) e)
 
-  pub context-none : any (bearsContext context) (map contextOf (rowsIn w (l .contexts))) ≡ false
-      → Refused NoSuchContext ≡ decision (tablesAt w l) q
+  pub context-step : {o : Option ContextRow} → find (bearsContext context) (map contextOf (rowsIn w (l .contexts))) ≡ o
+      → orRefused NoSuchContext o (λ c. step2 q (tablesAt w l)) ≡ decision (tablesAt w l) q
   unfolding tablesAt decision
-  context-none e = sym (rw e)
-
-  module _ (c : any (bearsContext context) (map contextOf (rowsIn w (l .contexts))) ≡ true) where
-    pub group-none : find (mapsPrincipal model name) (map mappingOf (rowsIn w (l .mappings))) ≡ none
-        → Refused NoGroupName ≡ decision (tablesAt w l) q
-    unfolding tablesAt decision
-    group-none e = sym (rw (c, e))
-
-    pub group-some : {m : MappingRow} → find (mapsPrincipal model name) (map mappingOf (rowsIn w (l .mappings))) ≡ some m
-        → step2 (some m) (asked model [] level view context variable) (tablesAt w l) ≡ decision (tablesAt w l) q
-    unfolding tablesAt decision
-    group-some {m} e =
-        step3-name (chosenAccess (m .groupName) model level context (map accessOf (rowsIn w (l .accesses)))) model [] name level view context variable (tablesAt w l)
-        ∙ sym (rw (c, e))
+  context-step e = sym (ap (λ o. orRefused NoSuchContext o (λ c. step2 q (tablesAt w l))) e)
 
 -- ---- the call
 
 -- a variable in range has few parts
-pub variable-few : (q : Request) → legalRequest q ≡ true → length (q .variableName) ≤ 128
+pub variable-few : (q : Request) → legalRequest q ≡ true → length (q .variableName) ≤ mostParts
 unfolding legalRequest
 variable-few q h =
     let others =
-    within 1 2147483647 (q .securityModel)
-    && within 1 32 (length (q .securityName))
-    && within 1 3 (q .securityLevel)
-    && within 1 3 (q .viewType)
-    && leb (length (q .contextName)) 32 in
-    within-most 1 128 (length (q .variableName)) (and-right others _ h)
+    within 1 modelMax (q .securityModel)
+    && within 1 longestName (length (q .securityName))
+    && within noAuthNoPriv authPriv (q .securityLevel)
+    && within read notify (q .viewType)
+    && leb (length (q .contextName)) longestName in
+    within-most 1 mostParts (length (q .variableName)) (and-right others _ h)
+
+-- a variable's bytes, at the front of a buffer
+module _ (parts out rest : List ℕ) (e : out ≡ bytesOf quad parts) where
+  length-written : length out ≡ 4 * length parts
+  length-written = omega (arith, ap length e ∙ length-bytesOf quad parts)
+
+  pub written-room : 4 * length parts ≤ length (out ++ rest)
+  written-room = omega (arith, length-append out rest, length-written)
+
+  pub written-identifier : ((i : ℕ) → getD parts i 0 < 4294967296) → identifier (take (4 * length parts - 0) (out ++ rest)) ≡ parts
+  written-identifier h = ap identifier (take-at out rest (4 * length parts - 0) (omega (arith, length-written)) ∙ e) ∙ identifier-bytesOf parts h
 
 module _ (w : List ℕ) where
-  -- by whether the store is sound
-  laid-sound : (b : Bool) (d l : Layout) → Laid l ≡ surveyed (cond b none (some NotSound)) d → (b ≡ true) × (l ≡ d)
-  laid-sound true d l e = (refl, cc)
-  laid-sound false d l e = (cc, cc)
-
-  bad-unsound : (b : Bool) (d : Layout) (f : Fault) → Bad f ≡ surveyed (cond b none (some NotSound)) d → b ≡ false
-  bad-unsound true d f e = cc
-  bad-unsound false d f e = refl
-
-  pub store-laid : {l : Layout} → Laid l ≡ surveyed (storeFault w) (layoutOf w) → (isSound w ≡ true) × (l ≡ layoutOf w)
-  unfolding storeFault
-  store-laid e = laid-sound (isSound w) _ _ e
-
   pub layout-sound : {l : Layout} → Laid l ≡ surveyed (storeFault w) (layoutOf w) → SoundLayout w l
-  layout-sound e = let s = store-laid e in rw (s .1) (sound-layout w (s .0))
+  layout-sound e = let s = store-laid w e in rw (s .1) (sound-layout w (s .0))
 
   module _ (q : Request) where
     pub answer-unsound : {f : Fault} → Bad f ≡ surveyed (storeFault w) (layoutOf w) → Faulty NotSound ≡ answer (held w) q
-    unfolding storeFault held
-    answer-unsound {f} e = sym (rw (bad-unsound (isSound w) _ f e))
+    unfolding held
+    answer-unsound e = sym (rw (store-bad w e))
 
-    module _ {l : Layout} (e : Laid l ≡ surveyed (storeFault w) (layoutOf w)) where
-      pub answer-illegal : legalRequest q ≡ false → Faulty OutOfRange ≡ answer (held w) q
-      unfolding held
-      answer-illegal n = sym (rw (store-laid e .0, n))
-
-      pub answer-decided : legalRequest q ≡ true → Decided (decision (tablesAt w l) q) ≡ answer (held w) q
-      unfolding held
-      answer-decided n = sym (rw (store-laid e .0, n, store-laid e .1))
+    pub answer-laid : {l : Layout} → Laid l ≡ surveyed (storeFault w) (layoutOf w) → answerOn (tablesAt w l) q ≡ answer (held w) q
+    unfolding held
+    answer-laid e = sym (rw (store-laid w e .0, store-laid w e .1))

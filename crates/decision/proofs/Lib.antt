@@ -1,5 +1,1 @@
-pub mod Scanning
-pub mod Backwards
-pub mod Finding
-pub mod Spelling
 pub mod Answers

@@ -1,15 +1,44 @@
--- What the calls that edit promise: the answer, the rows afterwards, and that a refusal leaves the store as found. Assumes nothing.
-use mathlib.Core.Path.{_≡_}
+-- The owner's and the principals' edits in full (document 01, "Edits" and "Where each number is met"), and what the calls promise. Assumes nothing.
+use mathlib.Core.Bool.{Bool, true, false, cond, _&&_}
 use mathlib.Core.List.{List}
-use mathlib.Core.Option.{Option, none, some}
 use Prim.Native.Nat.{ℕ}
-use Rattle.answers.specs.declared.Fault.the-variants.{NotSound}
+use Rattle.answers.specs.declared.Decision.{Decision}
+use Rattle.answers.specs.declared.Decision.the-variants.{Allowed, Refused}
+use Rattle.answers.specs.declared.Fault.the-variants.{NotSound, OutOfRange, ContextTable}
 use Rattle.answers.specs.Numbers.{causeNumber, faultNumber}
+use Rattle.rows.specs.declared.Table.{Table}
+use Rattle.rows.specs.Fields.{span}
+use Rattle.rows.specs.Rows.{keyFields}
 use Rattle.rows.specs.Tables.{Tables}
-use Rattle.image.specs.Store.{held}
-use Rattle.edits.specs.declared.Edited.{Edited}
-use Rattle.edits.specs.declared.Edited.the-variants.{Done, Barred, Faulty}
-use Rattle.edits.specs.Edits.{Edit, Caller, Outcome, ownerEdit, principalEdit}
+use Rattle.image_layout.specs.Layout.{layoutOf}
+use Rattle.image.specs.Store.{isSound}
+use Rattle.edit_rules.specs.declared.Change.{Change}
+use Rattle.edit_rules.specs.declared.Edited.{Edited}
+use Rattle.edit_rules.specs.declared.Edited.the-variants.{Done, Barred, Faulty}
+use Rattle.edit_rules.specs.Edits.{Outcome, Edit, Caller, tableOf, editOf, edit, legalCaller, legalEdit, judgement, isContext}
+use Rattle.edit_rows.specs.Promise.{Edits}
+use Rattle.edits.specs.declared.Prepared.{Prepared}
+use Rattle.edits.specs.declared.Prepared.the-variants.{Ready, Unready}
+
+abbrev pub refused : Edited → Tables → Outcome Tables
+refused r t = record { answer = r; rows = t }
+
+-- the owner: 7, then the edit, unchecked by the tables
+unfoldable pub ownerEdit : Tables → Edit → Outcome Tables
+ownerEdit t e = cond (legalEdit e) (edit false t e) (refused (Faulty OutOfRange) t)
+
+abbrev pub allowed : Decision → Tables → Edit → Outcome Tables
+allowed Allowed t e = edit true t e
+allowed (Refused c) t e = refused (Barred c) t
+
+-- 7 for the caller's fields, then the row's; 12; 1 to 5; then the edit
+unfoldable pub principalEdit : Tables → Caller → Edit → Outcome Tables
+principalEdit t c e =
+    cond (legalCaller c && legalEdit e)
+    (cond (isContext (tableOf e)) (refused (Faulty ContextTable) t) (allowed (judgement t c e) t e))
+    (refused (Faulty OutOfRange) t)
+
+-- ---- the calls
 
 -- document 01's number for each case
 abbrev pub editedNumber : Edited → ℕ
@@ -17,24 +46,14 @@ editedNumber Done = 0
 editedNumber (Barred c) = causeNumber c
 editedNumber (Faulty f) = faultNumber f
 
--- 6 first
-abbrev pub answered : (Tables → Outcome Tables) → Option Tables → Edited
-answered f none = Faulty NotSound
-answered f (some t) = f t .answer
-
-abbrev pub left : (Tables → Outcome Tables) → Option Tables → Option Tables
-left f none = none
-left f (some t) = some (f t .rows)
-
--- a call that edits by f, from the store `found` to the store `after`
-pub record Edits (f : Tables → Outcome Tables) (found after : List ℕ) (r : Edited) : Type 0 where
-  pub answer-is : r ≡ answered f (held found)
-  pub rows-are : held after ≡ left f (held found)
-  pub refusal-keeps : (r ≡ Done → ⊥) → after ≡ found
-
 -- the owner's call, and a principal's
 abbrev pub OwnerEdits : Edit → List ℕ → List ℕ → Edited → Type 0
 OwnerEdits e found after r = Edits (λ t. ownerEdit t e) found after r
 
 abbrev pub PrincipalEdits : Caller → Edit → List ℕ → List ℕ → Edited → Type 0
 PrincipalEdits c e found after r = Edits (λ t. principalEdit t c e) found after r
+
+-- what both begin with: 6 for the store, then 7 for what is handed
+abbrev pub prepared : List ℕ → Change → Table → List ℕ → Prepared
+prepared w c t bytes =
+    cond (isSound w) (cond (legalEdit (editOf c t bytes)) (Ready (layoutOf w) (span (keyFields t) bytes)) (Unready OutOfRange)) (Unready NotSound)

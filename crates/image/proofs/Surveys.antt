@@ -1,6 +1,6 @@
 -- An image or a store surveyed: its counts read (`Counted`), each test settles what the definition answers, and past the tests
--- the answer is that of the rows. What is sound has passed each test, so that its tables lie within it and are sound.
--- Assumes nothing.
+-- the answer is that of the rows. A store that has its length is sound exactly where nothing is wrong with the image at its front. What is
+-- sound has passed each test, so that its tables lie within it and are sound. Assumes nothing.
 use mathlib.Core.Path.{_≡_, refl, sym, _∙_}
 use mathlib.Core.Bool.{Bool, true, false, cond, _&&_}
 use mathlib.Core.List.{List}
@@ -9,19 +9,21 @@ use Prim.Native.Nat.{ℕ, _+_, _≤_, _<_}
 use native.Mathlib.Omega.{arith}
 use lib.Dec.{eqb, leb, ltb}
 use lib.ListN.{length}
-use borrow.Author.Tests.{lt-ltb, le-ltb, le-leb, lt-leb, leb-true, eq-eqb, ne-eqb, eqb-true}
+use borrow.Author.Tests.{lt-ltb, le-ltb, lt-leb, leb-true, eq-eqb, ne-eqb, eqb-true}
 use Rattle.answers.specs.declared.Fault.{Fault}
 use Rattle.answers.specs.declared.Fault.the-variants.{NotSound, Torn, TableFull}
-use Rattle.lists.proofs.Bools.{and-left, and-right, and-false-left, and-false-right}
-use Rattle.rows.proofs.Sound.{cond-none}
-use Rattle.image.specs.declared.Layout.{Layout}
-use Rattle.image.specs.declared.Surveyed.{Surveyed}
-use Rattle.image.specs.declared.Surveyed.the-variants.{Laid, Bad}
-use Rattle.image.specs.Layout.{count, called, withinLimits, header, laidOut, layoutOf}
-use Rattle.image.specs.Image.{rowsFault, sizedFault, imageFault, SoundLayout, surveyed, soundly}
 use Rattle.lists.specs.Lists.{isNone}
-use Rattle.image.specs.Store.{room, soundRows, isSound, storeFault}
-use Rattle.image.proofs.Layouts.{laid-within, sound-tables}
+use Rattle.lists.proofs.Bools.{and-left, and-right}
+use Rattle.rows.proofs.Sound.{cond-none}
+use Rattle.image_layout.specs.declared.Layout.{Layout}
+use Rattle.image_layout.specs.Layout.{count, imageLength, withinLimits, header, laidOut, layoutOf}
+use Rattle.image_layout.proofs.Layouts.{laid-within}
+use Rattle.image_judge.specs.declared.Surveyed.{Surveyed}
+use Rattle.image_judge.specs.declared.Surveyed.the-variants.{Laid, Bad}
+use Rattle.image_judge.specs.Faults.{rowsFault, SoundLayout, surveyed}
+use Rattle.image_judge.proofs.Tables.{sound-tables}
+use Rattle.image.specs.Image.{sizedFault, frontFault, imageFault, fits}
+use Rattle.image.specs.Store.{room, soundRows, isSound, storeFault, soundly}
 
 -- ---- answers
 
@@ -36,6 +38,131 @@ laid-none (some f) d e = (cc, cc)
 pub bad-some : (o : Option Fault) (d : Layout) {f : Fault} → Bad f ≡ surveyed o d → o ≡ some f
 bad-some none d e = cc
 bad-some (some g) d e = cc
+
+is-none : (o : Option Fault) → isNone o ≡ true → o ≡ none
+is-none none e = refl
+is-none (some f) e = cc
+
+-- ---- lengths that fit
+
+pub fits-within : (whole : Bool) (end len : ℕ) → fits whole end len ≡ true → end ≤ len
+fits-within true end len e = omega (arith, eqb-true end len e)
+fits-within false end len e = leb-true end len e
+
+pub fits-past : (whole : Bool) (end len : ℕ) → len < end → fits whole end len ≡ false
+fits-past true end len h = ne-eqb end len (λ e. omega arith)
+fits-past false end len h = lt-leb end len h
+
+-- ---- counts read, and the image at the front
+
+pub record Counted (w : List ℕ) (c m a v : ℕ) : Type 0 where
+  pub contexts-are : c ≡ count 0 w
+  pub mappings-are : m ≡ count 1 w
+  pub accesses-are : a ≡ count 2 w
+  pub views-are : v ≡ count 3 w
+
+module _ (fit : ℕ → ℕ → Bool) where
+  pub front-tiny : (w : List ℕ) → length w < header → frontFault fit w ≡ some Torn
+  front-tiny w h = rw (lt-ltb (length w) header h)
+
+  module _ {w : List ℕ} {c m a v : ℕ} (k : Counted w c m a v) (h : header ≤ length w) where
+    sized : frontFault fit w ≡ sizedFault fit w c m a v
+    sized = rw (le-ltb (length w) header h, ← k .contexts-are, ← k .mappings-are, ← k .accesses-are, ← k .views-are)
+
+    layout-is : layoutOf w ≡ laidOut w c m a v
+    unfolding layoutOf
+    layout-is = rw (← k .contexts-are, ← k .mappings-are, ← k .accesses-are, ← k .views-are)
+
+    pub front-full : withinLimits c m a v ≡ false → frontFault fit w ≡ some TableFull
+    unfolding sizedFault
+    front-full n = sized ∙ rw n
+
+    pub front-torn : withinLimits c m a v ≡ true → fit (imageLength (c + m + a + v) w) (length w) ≡ false → frontFault fit w ≡ some Torn
+    unfolding sizedFault
+    front-torn y n = sized ∙ rw (y, n)
+
+    front-rows : withinLimits c m a v ≡ true → fit (imageLength (c + m + a + v) w) (length w) ≡ true → frontFault fit w ≡ rowsFault w (laidOut w c m a v)
+    unfolding sizedFault
+    front-rows y e = sized ∙ rw (y, e)
+
+    pub front-surveyed : withinLimits c m a v ≡ true → fit (imageLength (c + m + a + v) w) (length w) ≡ true
+        → {r : Surveyed} → r ≡ surveyed (rowsFault w (laidOut w c m a v)) (laidOut w c m a v) → r ≡ surveyed (frontFault fit w) (layoutOf w)
+    front-surveyed y e q = rw (front-rows y e, layout-is) q
+
+-- ---- a store
+
+pub store-other : (w : List ℕ) → (length w ≡ room → ⊥) → storeFault w ≡ some NotSound
+unfolding storeFault isSound
+store-other w n = rw (ne-eqb (length w) room n)
+
+is-none-sized : (b e : Bool) (o : Option Fault) → isNone (cond b (cond e o (some Torn)) (some TableFull)) ≡ b && (e && isNone o)
+is-none-sized true true o = refl
+is-none-sized true false o = refl
+is-none-sized false e o = refl
+
+soundly-none : (o : Option Fault) (l : Layout) → soundly (surveyed o l) ≡ surveyed (cond (isNone o) none (some NotSound)) l
+soundly-none none l = refl
+soundly-none (some f) l = refl
+
+-- nothing is wrong at the front of a store that has its length where it is sound
+module _ (w : List ℕ) (h : length w ≡ room) where
+  sized-sound : (c m a v : ℕ) → isNone (sizedFault leb w c m a v) ≡ soundRows w c m a v
+  unfolding sizedFault soundRows
+  sized-sound c m a v =
+      is-none-sized (withinLimits c m a v) (leb (imageLength (c + m + a + v) w) (length w)) (rowsFault w (laidOut w c m a v))
+
+  front-sound : isNone (frontFault leb w) ≡ isSound w
+  unfolding isSound
+  front-sound =
+      let l : header ≤ length w = omega arith in
+      rw (le-ltb (length w) header l, eq-eqb (length w) room h) (sized-sound _ _ _ _)
+
+  pub store-surveyed : {r s : Surveyed} → r ≡ surveyed (frontFault leb w) (layoutOf w) → s ≡ soundly r → s ≡ surveyed (storeFault w) (layoutOf w)
+  unfolding storeFault
+  store-surveyed q p = p ∙ rw (q, ← front-sound) (soundly-none (frontFault leb w) (layoutOf w))
+
+-- ---- what is sound
+
+-- the tests that it passed
+past-header : (b : Bool) (o : Option Fault) → cond b (some Torn) o ≡ none → o ≡ none
+past-header true o e = cc
+past-header false o e = e
+
+abbrev counted : List ℕ → ℕ
+counted w = count 0 w + count 1 w + count 2 w + count 3 w
+
+pub image-tests : (w : List ℕ) → imageFault w ≡ none
+    → (withinLimits (count 0 w) (count 1 w) (count 2 w) (count 3 w) ≡ true) × (imageLength (counted w) w ≡ length w) × (rowsFault w (layoutOf w) ≡ none)
+unfolding imageFault sizedFault layoutOf
+image-tests w h =
+    let p = cond-none (withinLimits (count 0 w) (count 1 w) (count 2 w) (count 3 w)) _ _ (past-header (ltb (length w) header) _ h) in
+    let q = cond-none (eqb (imageLength (counted w) w) (length w)) _ _ (p .1) in
+    (p .0, eqb-true (imageLength (counted w) w) (length w) (q .0), q .1)
+
+pub store-tests : (w : List ℕ) → isSound w ≡ true
+    → (length w ≡ room) × (withinLimits (count 0 w) (count 1 w) (count 2 w) (count 3 w) ≡ true)
+    × (imageLength (counted w) w ≤ length w) × (rowsFault w (layoutOf w) ≡ none)
+unfolding isSound soundRows layoutOf
+store-tests w h =
+    let a = and-right (eqb (length w) room) _ h in
+    let b = and-right (withinLimits (count 0 w) (count 1 w) (count 2 w) (count 3 w)) _ a in
+    let e = leb (imageLength (counted w) w) (length w) in
+    (eqb-true (length w) room (and-left _ _ h), and-left _ _ a, leb-true _ _ (and-left e _ b), is-none (rowsFault w _) (and-right e _ b))
+
+within-layout : (w : List ℕ) → imageLength (counted w) w ≤ length w → rowsFault w (layoutOf w) ≡ none → SoundLayout w (layoutOf w)
+unfolding layoutOf
+within-layout w l r = sound-tables w (layoutOf w) (laid-within w _ _ _ _ l) r
+
+pub image-layout : (w : List ℕ) → imageFault w ≡ none → SoundLayout w (layoutOf w)
+image-layout w h = let t = image-tests w h in within-layout w (omega (arith, t .1)) (t .2)
+
+pub sound-layout : (w : List ℕ) → isSound w ≡ true → SoundLayout w (layoutOf w)
+sound-layout w h = let t = store-tests w h in within-layout w (t .2) (t .3)
+
+-- ---- what a survey answered
+
+pub image-laid : (w : List ℕ) {l : Layout} → Laid l ≡ surveyed (imageFault w) (layoutOf w) → SoundLayout w l
+image-laid w e = let p = laid-none _ _ e in rw (p .1) (image-layout w (p .0))
 
 sound-none : (b : Bool) → cond b none (some NotSound) ≡ none → b ≡ true
 sound-none true e = refl
@@ -53,118 +180,5 @@ pub store-bad : (w : List ℕ) {f : Fault} → Bad f ≡ surveyed (storeFault w)
 unfolding storeFault
 store-bad w {f} e = unsound-some (isSound w) f (bad-some _ _ e)
 
-soundly-rows : (o : Option Fault) (l : Layout) → surveyed (cond (isNone o) none (some NotSound)) l ≡ soundly (surveyed o l)
-soundly-rows none l = refl
-soundly-rows (some f) l = refl
-
-is-none : (o : Option Fault) → isNone o ≡ true → o ≡ none
-is-none none e = refl
-is-none (some f) e = cc
-
--- counts within their limits
-pub few : (c m a v : ℕ) → withinLimits c m a v ≡ true → c + m + a + v ≤ 240
-few c m a v h =
-    let p = and-left (leb c 16 && leb m 64 && leb a 64) (leb v 96) h in
-    let q = and-left (leb c 16 && leb m 64) (leb a 64) p in
-    omega (arith, leb-true c 16 (and-left _ _ q), leb-true m 64 (and-right (leb c 16) _ q), leb-true a 64 (and-right (leb c 16 && leb m 64) _ p), leb-true v 96 (and-right (leb c 16 && leb m 64 && leb a 64) _ h))
-
--- ---- counts read
-
-pub record Counted (w : List ℕ) (c m a v : ℕ) : Type 0 where
-  pub contexts-are : c ≡ count 0 w
-  pub mappings-are : m ≡ count 1 w
-  pub accesses-are : a ≡ count 2 w
-  pub views-are : v ≡ count 3 w
-
--- the counts themselves
-pub counts : (w : List ℕ) → Counted w (count 0 w) (count 1 w) (count 2 w) (count 3 w)
-counts w = record { contexts-are = refl; mappings-are = refl; accesses-are = refl; views-are = refl }
-
-pub image-tiny : (w : List ℕ) → length w < 8 → imageFault w ≡ some Torn
-unfolding imageFault
-image-tiny w h = rw (lt-ltb (length w) 8 h)
-
-module _ {w : List ℕ} {c m a v : ℕ} (k : Counted w c m a v) where
-  layout-is : layoutOf w ≡ laidOut w c m a v
-  unfolding layoutOf
-  layout-is = rw (← k .contexts-are, ← k .mappings-are, ← k .accesses-are, ← k .views-are)
-
-  -- an image
-  module _ (h : 8 ≤ length w) where
-    sized : imageFault w ≡ sizedFault w c m a v
-    unfolding imageFault
-    sized = rw (le-ltb (length w) 8 h, ← k .contexts-are, ← k .mappings-are, ← k .accesses-are, ← k .views-are)
-
-    pub image-full : withinLimits c m a v ≡ false → imageFault w ≡ some TableFull
-    unfolding sizedFault
-    image-full n = sized ∙ rw n
-
-    pub image-torn : withinLimits c m a v ≡ true → (called (c + m + a + v) w ≡ length w → ⊥) → imageFault w ≡ some Torn
-    unfolding sizedFault
-    image-torn y n = sized ∙ rw (y, ne-eqb (called (c + m + a + v) w) (length w) n)
-
-    image-rows : withinLimits c m a v ≡ true → called (c + m + a + v) w ≡ length w → imageFault w ≡ rowsFault w (laidOut w c m a v)
-    unfolding sizedFault
-    image-rows y e = sized ∙ rw (y, eq-eqb (called (c + m + a + v) w) (length w) e)
-
-    pub image-surveyed : withinLimits c m a v ≡ true → called (c + m + a + v) w ≡ length w
-        → {r : Surveyed} → r ≡ surveyed (rowsFault w (laidOut w c m a v)) (laidOut w c m a v) → r ≡ surveyed (imageFault w) (layoutOf w)
-    image-surveyed y e q = rw (image-rows y e, layout-is) q
-
-  -- a store
-  sound-is : isSound w ≡ (eqb (length w) room && soundRows w c m a v)
-  unfolding isSound
-  sound-is = rw (← k .contexts-are, ← k .mappings-are, ← k .accesses-are, ← k .views-are)
-
-  unsound : eqb (length w) room && soundRows w c m a v ≡ false → storeFault w ≡ some NotSound
-  unfolding storeFault
-  unsound n = rw (sound-is ∙ n)
-
-  pub store-full : withinLimits c m a v ≡ false → storeFault w ≡ some NotSound
-  unfolding soundRows
-  store-full n = unsound (and-false-right (eqb (length w) room) (and-false-left _ n))
-
-  pub store-long : length w < called (c + m + a + v) w → storeFault w ≡ some NotSound
-  unfolding soundRows
-  store-long n =
-      unsound (and-false-right (eqb (length w) room) (and-false-right (withinLimits c m a v) (and-false-left _ (lt-leb (called (c + m + a + v) w) (length w) n))))
-
-  pub store-surveyed : length w ≡ room → withinLimits c m a v ≡ true → called (c + m + a + v) w ≤ length w
-      → {r s : Surveyed} → r ≡ surveyed (rowsFault w (laidOut w c m a v)) (laidOut w c m a v) → s ≡ soundly r → s ≡ surveyed (storeFault w) (layoutOf w)
-  unfolding storeFault soundRows
-  store-surveyed e y l {r} {s} q p =
-      rw (layout-is, sound-is, eq-eqb (length w) room e, y, le-leb (called (c + m + a + v) w) (length w) l, soundly-rows (rowsFault w (laidOut w c m a v)) (laidOut w c m a v), ← q) p
-
-pub store-other : (w : List ℕ) → (length w ≡ room → ⊥) → storeFault w ≡ some NotSound
-unfolding storeFault isSound
-store-other w n = rw (ne-eqb (length w) room n)
-
--- ---- what is sound
-
-module _ (w : List ℕ) (c m a v : ℕ) where
-  pub sized-layout : sizedFault w c m a v ≡ none → SoundLayout w (laidOut w c m a v)
-  unfolding sizedFault
-  sized-layout h =
-      let p = cond-none (withinLimits c m a v) _ _ h in
-      let q = cond-none (eqb (called (c + m + a + v) w) (length w)) _ _ (p .1) in
-      let e : called (c + m + a + v) w ≤ length w = omega (arith, eqb-true (called (c + m + a + v) w) (length w) (q .0)) in
-      sound-tables w (laidOut w c m a v) (laid-within w c m a v e) (q .1)
-
-  pub rows-layout : soundRows w c m a v ≡ true → SoundLayout w (laidOut w c m a v)
-  unfolding soundRows
-  rows-layout h =
-      let p = and-right (withinLimits c m a v) _ h in
-      let e = leb-true (called (c + m + a + v) w) (length w) (and-left _ _ p) in
-      sound-tables w (laidOut w c m a v) (laid-within w c m a v e) (is-none (rowsFault w (laidOut w c m a v)) (and-right (leb (called (c + m + a + v) w) (length w)) _ p))
-
-tiny-none : (b : Bool) (o : Option Fault) → cond b (some Torn) o ≡ none → o ≡ none
-tiny-none true o e = cc
-tiny-none false o e = e
-
-pub image-layout : (w : List ℕ) → imageFault w ≡ none → SoundLayout w (layoutOf w)
-unfolding imageFault layoutOf
-image-layout w h = sized-layout w _ _ _ _ (tiny-none (ltb (length w) header) _ h)
-
-pub sound-layout : (w : List ℕ) → isSound w ≡ true → SoundLayout w (layoutOf w)
-unfolding isSound layoutOf
-sound-layout w h = rows-layout w _ _ _ _ (and-right (eqb (length w) room) _ h)
+pub store-sound-layout : (w : List ℕ) {l : Layout} → Laid l ≡ surveyed (storeFault w) (layoutOf w) → SoundLayout w l
+store-sound-layout w e = let p = store-laid w e in rw (p .1) (sound-layout w (p .0))

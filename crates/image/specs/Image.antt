@@ -1,90 +1,31 @@
--- What is wrong with a table image, if anything is, and the tables that it holds (document 01, the last rows of "Where each number is met").
--- Assumes nothing.
-use mathlib.Core.Path.{_≡_}
+-- What is wrong with a table image, if anything is (document 01, the last rows of "Where each number is met"). Assumes nothing.
 use mathlib.Core.Bool.{Bool, true, false, cond}
-use mathlib.Core.List.{List, [], _∷_, map}
-use mathlib.Core.Option.{Option, none, some}
+use mathlib.Core.List.{List}
+use mathlib.Core.Option.{Option, some}
 use Prim.Native.Nat.{ℕ, _+_}
 use lib.Dec.{eqb, leb, ltb}
 use lib.ListN.{length}
 use Rattle.answers.specs.declared.Fault.{Fault}
-use Rattle.answers.specs.declared.Fault.the-variants.{NotSound, Torn, TableFull, NotAscending}
-use Rattle.lists.specs.Order.{before}
-use Rattle.rows.specs.declared.Step.{Step}
-use Rattle.rows.specs.declared.Step.the-variants.{At}
-use Rattle.rows.specs.declared.Table.{Table}
-use Rattle.rows.specs.declared.Table.the-variants.{Context, Mapping, Access, View}
-use Rattle.rows.specs.Fields.{faults, values, index, orElse}
-use Rattle.rows.specs.Rows.{keyFields, rowFields, contextOf, mappingOf, accessOf, viewOf}
-use Rattle.rows.specs.Tables.{Tables}
-use Rattle.image.specs.declared.Extent.{Extent}
-use Rattle.image.specs.declared.Layout.{Layout}
-use Rattle.image.specs.declared.Surveyed.{Surveyed}
-use Rattle.image.specs.declared.Surveyed.the-variants.{Laid, Bad}
-use Rattle.image.specs.Layout.{Inside, rowsIn, layoutOf, laidOut, count, called, withinLimits, header}
+use Rattle.answers.specs.declared.Fault.the-variants.{Torn, TableFull}
+use Rattle.image_layout.specs.Layout.{laidOut, count, imageLength, withinLimits, header}
+use Rattle.image_judge.specs.Faults.{rowsFault}
 
--- the index of the row of table t that bytes hold
-abbrev pub indexOf : Table → List ℕ → List ℕ
-indexOf t r = index (keyFields t) (values (keyFields t) r)
-
--- rows of one table, one after the other: each whole and legal, its index above that of the row before it
-unfoldable pub tableFault : Table → List ℕ → List (List ℕ) → Option Fault
-tableFault t prev [] = none
-tableFault t prev (r ∷ rs) =
-    orElse (faults (rowFields t) r) (cond (before prev (indexOf t r)) (tableFault t (indexOf t r) rs) (some NotAscending))
-
--- the rows of all tables; no index is above none, [], so that a table's first row may have any
-unfoldable pub rowsFault : List ℕ → Layout → Option Fault
-rowsFault w l =
-    orElse (tableFault Context [] (rowsIn w (l .contexts)))
-    (orElse (tableFault Mapping [] (rowsIn w (l .mappings)))
-    (orElse (tableFault Access [] (rowsIn w (l .accesses))) (tableFault View [] (rowsIn w (l .views)))))
-
--- the image: under 8 bytes; a count above its limit; the total length not as called for; the rows
-unfoldable pub sizedFault : List ℕ → ℕ → ℕ → ℕ → ℕ → Option Fault
-sizedFault w c m a v =
+-- a count above its limit; the total length not one that fits; the rows
+unfoldable pub sizedFault : (ℕ → ℕ → Bool) → List ℕ → ℕ → ℕ → ℕ → ℕ → Option Fault
+sizedFault fit w c m a v =
     cond (withinLimits c m a v)
-    (cond (eqb (called (c + m + a + v) w) (length w)) (rowsFault w (laidOut w c m a v)) (some Torn))
+    (cond (fit (imageLength (c + m + a + v) w) (length w)) (rowsFault w (laidOut w c m a v)) (some Torn))
     (some TableFull)
 
+-- the image at the front of w; before all, under 8 bytes
+abbrev pub frontFault : (ℕ → ℕ → Bool) → List ℕ → Option Fault
+frontFault fit w = cond (ltb (length w) header) (some Torn) (sizedFault fit w (count 0 w) (count 1 w) (count 2 w) (count 3 w))
+
+-- w is the image, exactly
 unfoldable pub imageFault : List ℕ → Option Fault
-imageFault w = cond (ltb (length w) header) (some Torn) (sizedFault w (count 0 w) (count 1 w) (count 2 w) (count 3 w))
+imageFault w = frontFault eqb w
 
--- the tables that lie so in w
-unfoldable pub tablesAt : List ℕ → Layout → Tables
-tablesAt w l = record {
-  vacmContextTable = map contextOf (rowsIn w (l .contexts));
-  vacmSecurityToGroupTable = map mappingOf (rowsIn w (l .mappings));
-  vacmAccessTable = map accessOf (rowsIn w (l .accesses));
-  vacmViewTreeFamilyTable = map viewOf (rowsIn w (l .views));
-}
-
--- the tables of the image at the front of w
-abbrev pub tablesIn : List ℕ → Tables
-tablesIn w = tablesAt w (layoutOf w)
-
--- a table that lies within w, nothing wrong with its rows
-pub record SoundTable (t : Table) (w : List ℕ) (x : Extent) : Type 0 where
-  pub inside : Inside w x
-  pub rows-sound : tableFault t [] (rowsIn w x) ≡ none
-
-pub record SoundLayout (w : List ℕ) (l : Layout) : Type 0 where
-  pub contexts-sound : SoundTable Context w (l .contexts)
-  pub mappings-sound : SoundTable Mapping w (l .mappings)
-  pub accesses-sound : SoundTable Access w (l .accesses)
-  pub views-sound : SoundTable View w (l .views)
-
--- where the tables lie, if nothing is wrong
-abbrev pub surveyed : Option Fault → Layout → Surveyed
-surveyed none l = Laid l
-surveyed (some f) l = Bad f
-
--- the fault that stopped a step
-abbrev pub stoppedBy : Step → Surveyed
-stoppedBy (At a) = Bad Torn
-stoppedBy (Step.Bad f) = Bad f
-
--- of a store it is 6 whatever is wrong with the rows
-abbrev pub soundly : Surveyed → Surveyed
-soundly (Laid l) = Laid l
-soundly (Bad f) = Bad NotSound
+-- the end of an image fits a length: where that is to be the whole image, exactly
+abbrev pub fits : Bool → ℕ → ℕ → Bool
+fits true end len = eqb end len
+fits false end len = leb end len

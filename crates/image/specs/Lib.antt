@@ -1,4 +1,2 @@
-pub mod Layout
 pub mod Image
 pub mod Store
-pub mod Written

@@ -10,8 +10,10 @@ use Rattle.answers.specs.declared.Fault.{Fault}
 use Rattle.answers.specs.declared.Fault.the-variants.{NotSound}
 use Rattle.lists.specs.Lists.{isNone}
 use Rattle.rows.specs.Tables.{Tables}
-use Rattle.image.specs.Layout.{count, called, withinLimits, laidOut}
-use Rattle.image.specs.Image.{rowsFault, tablesIn}
+use Rattle.image_judge.specs.declared.Surveyed.{Surveyed}
+use Rattle.image_judge.specs.declared.Surveyed.the-variants.{Laid, Bad}
+use Rattle.image_layout.specs.Layout.{laidOut, count, imageLength, withinLimits}
+use Rattle.image_judge.specs.Faults.{rowsFault, tablesIn}
 
 -- the largest image: 46,456 bytes
 abbrev pub room : ℕ
@@ -20,7 +22,7 @@ room = 46456
 -- each count within its limit, the rows within the room, each held field legal, each table ascending
 unfoldable pub soundRows : List ℕ → ℕ → ℕ → ℕ → ℕ → Bool
 soundRows w c m a v =
-    withinLimits c m a v && (leb (called (c + m + a + v) w) (length w) && isNone (rowsFault w (laidOut w c m a v)))
+    withinLimits c m a v && (leb (imageLength (c + m + a + v) w) (length w) && isNone (rowsFault w (laidOut w c m a v)))
 
 unfoldable pub isSound : List ℕ → Bool
 isSound w = eqb (length w) room && soundRows w (count 0 w) (count 1 w) (count 2 w) (count 3 w)
@@ -32,3 +34,8 @@ storeFault w = cond (isSound w) none (some NotSound)
 -- the tables that a sound store holds
 unfoldable pub held : List ℕ → Option Tables
 held w = cond (isSound w) (some (tablesIn w)) none
+
+-- what is surveyed at the front of a store: 6 whatever is wrong there
+abbrev pub soundly : Surveyed → Surveyed
+soundly (Laid l) = Laid l
+soundly (Bad f) = Bad NotSound

@@ -11,7 +11,8 @@ use Rattle.lists.specs.Lists.{keep, every}
 use Rattle.lists.proofs.Bools.{split, and-left, and-right}
 use Rattle.rows.specs.Tables.{Tables}
 use Rattle.image.specs.Store.{held}
-use Rattle.isolation.specs.Isolation.{Call, Reply, Told, calls, Run, done, more, Circle, shared, picked, staysInside, insidersEdit, mapsToGroup, givesChosen, findsRoom, othersRefused}
+use Rattle.isolation.specs.Isolation.{Call, Reply, Told, calls, Run, done, more, Circle, shared, picked, staysInside, insidersEdit, mapsToGroup}
+use Rattle.isolation.specs.Isolation.{givesChosen, findsRoom, othersRefused}
 use Rattle.isolation.proofs.Circles.{circleRows, Orderly}
 use Rattle.isolation.proofs.Steps.{step, does-step, step-shared, step-other, step-orderly}
 

@@ -16,7 +16,7 @@ use Rattle.lists.proofs.Greatest.{Ascends}
 use Rattle.rows.specs.Fields.{index}
 use Rattle.rows.specs.Rows.{MappingRow, AccessRow, ViewRow, mappingKey, accessKey, viewKey}
 use Rattle.rows.specs.Tables.{Tables, noRows}
-use Rattle.edits.specs.Edits.{contextIndex, mappingIndex, accessIndex, viewIndex}
+use Rattle.edit_rules.specs.TableRows.{contextIndex, mappingIndex, accessIndex, viewIndex}
 use Rattle.isolation.specs.Isolation.{Circle, mappingIn, accessIn, viewIn, implies, namesChosen}
 
 pub implied : (a b : Bool) → implies a b ≡ true → a ≡ true → b ≡ true

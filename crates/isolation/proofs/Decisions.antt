@@ -16,8 +16,10 @@ use Rattle.lists.proofs.Orders.{same-true}
 use Rattle.lists.proofs.Keeps.{every-keep, every-kept, every-both, every-top, keep-keep, first-is, find-is}
 use Rattle.rows.specs.Rows.{MappingRow, AccessRow, ViewRow}
 use Rattle.rows.specs.Tables.{Tables}
-use Rattle.procedure.specs.Request.{Request}
-use Rattle.procedure.specs.Decision.{mapsPrincipal, candidate, ofModel, longestPrefix, highestLevel, chosenAccess, viewFor, inView, viewRows, step2, step3, step4, decision}
+use Rattle.decision_steps.specs.Request.{Request}
+use Rattle.answers.specs.declared.Cause.the-variants.{NoSuchView, NoAccessEntry, NoGroupName}
+use Rattle.decision_steps.specs.Decision.{mapsPrincipal, candidate, ofModel, longestPrefix, highestLevel, chosenAccess, viewFor, inView, viewRows, orRefused}
+use Rattle.decision_steps.specs.Decision.{ifAny, step5, step4, step3, step2, decision}
 use Rattle.isolation.specs.Isolation.{Circle, mappingIn, accessIn, viewIn, chosenOrEmpty, namesChosen}
 use Rattle.isolation.proofs.Tables.{find-keep}
 use Rattle.isolation.proofs.Circles.{implied, circleRows, mappingFits, accessFits, Orderly}
@@ -80,12 +82,13 @@ module _ (w : Circle) where
 
   step-3 : (q : Request) (t : Tables) (o : Option AccessRow)
       → OnSome (λ a. candidate (w .group) (q .securityModel) (q .securityLevel) (q .contextName) a && accessFits w a ≡ true) o
-      → step3 o q (circleRows w t) ≡ step3 o q t
+      → orRefused NoAccessEntry o (λ a. step4 (q .variableName) (viewFor (q .viewType) a) (circleRows w t .vacmViewTreeFamilyTable))
+      ≡ orRefused NoAccessEntry o (λ a. step4 (q .variableName) (viewFor (q .viewType) a) (t .vacmViewTreeFamilyTable))
   step-3 q t none h = refl
   step-3 q t (some a) h =
       let i : accessIn w a ≡ true = candidate-in (q .securityModel) (q .securityLevel) (q .contextName) a (and-left _ _ h) in
       let f : accessFits w a ≡ true = and-right (candidate (w .group) (q .securityModel) (q .securityLevel) (q .contextName) a) _ h in
-      ap (step4 (q .variableName))
+      ap (λ rs. orRefused NoSuchView (ifAny rs) (step5 (q .variableName)))
       (view-rows (viewFor (q .viewType) a) (t .vacmViewTreeFamilyTable) (view-for (q .viewType) a (implied (accessIn w a) _ f i)))
 
   -- ---- step 2
@@ -101,7 +104,7 @@ module _ (w : Circle) where
   module _ (q : Request) (t : Tables) (i : Orderly w t) (h : w .member (q .securityModel) (q .securityName) ≡ true) where
     step-2 : (o : Option MappingRow)
         → OnSome (λ m. (mapsPrincipal (q .securityModel) (q .securityName) m ≡ true) × (mappingFits w m ≡ true)) o
-        → step2 o q (circleRows w t) ≡ step2 o q t
+        → orRefused NoGroupName o (λ m. step3 (m .groupName) q (circleRows w t)) ≡ orRefused NoGroupName o (λ m. step3 (m .groupName) q t)
     step-2 none k = refl
     step-2 (some m) k =
         let n : mappingIn w m ≡ true = mapping-in (q .securityModel) (q .securityName) m h (k .0) in

@@ -8,49 +8,32 @@ use mathlib.Core.List.{List}
 use Prim.Native.Nat.{ℕ}
 use lib.Dec.{eqb}
 use Rattle.lists.proofs.Bools.{clash}
+use Rattle.rows.specs.declared.Table.{Table}
 use Rattle.rows.specs.declared.Table.the-variants.{Context, Mapping, Access, View}
 use Rattle.rows.specs.Fields.{values}
-use Rattle.rows.specs.Rows.{ContextRow, MappingRow, AccessRow, ViewRow, keyFields, fieldAt, numberAt, contextOf, mappingOf, accessOf, viewOf}
+use Rattle.rows.specs.Rows.{ContextRow, MappingRow, AccessRow, ViewRow, limit, keyFields, fieldAt, numberAt, contextOf, mappingOf, accessOf, viewOf}
 use Rattle.rows.specs.Tables.{Tables}
-use Rattle.edits.specs.declared.Edited.the-variants.{Done}
-use Rattle.edits.specs.Edits.{Edit, put, remove, Outcome, contextIndex, mappingIndex, accessIndex, viewIndex, indexOfEdit, inContexts, inMappings, inAccesses, inViews, noStorage, edit}
+use Rattle.edit_rules.specs.Edits.{Edit, put, remove, Outcome, indexOfEdit, inTable, edit}
+use Rattle.edit_rules.specs.TableRows.{contextIndex, mappingIndex, accessIndex, viewIndex, rowOf, rowIndex, storageOf, rowsOf, withRows}
 use Rattle.edits.specs.Calls.{editedNumber}
 use Rattle.isolation.specs.Isolation.{Circle, mappingIn, accessIn, viewIn, ofCircle, implies, mapsToGroup, givesChosen}
 use Rattle.isolation.proofs.Circles.{circleRows, Fitting, mapping-same, access-same, view-same, mappingFits, accessFits, Orderly}
 use Rattle.isolation.proofs.TableEdits.{puts-refused, removes-refused, puts-in, removes-in, puts-out, removes-out, puts-fitting, removes-fitting}
 
--- one table's rows in place of those held
-abbrev setContexts : Tables → List ContextRow → Tables
-setContexts t rs = inContexts t (record { answer = Done; rows = rs }) .rows
+-- a table's own rows in place of those held
+own-rows : (t : Table) (ts : Tables) → withRows t ts (rowsOf t ts) ≡ ts
+own-rows Context ts = refl
+own-rows Mapping ts = refl
+own-rows Access ts = refl
+own-rows View ts = refl
 
-abbrev setMappings : Tables → List MappingRow → Tables
-setMappings t rs = inMappings t (record { answer = Done; rows = rs }) .rows
-
-abbrev setAccesses : Tables → List AccessRow → Tables
-setAccesses t rs = inAccesses t (record { answer = Done; rows = rs }) .rows
-
-abbrev setViews : Tables → List ViewRow → Tables
-setViews t rs = inViews t (record { answer = Done; rows = rs }) .rows
-
-pub edit-refused : (strict : Bool) (t : Tables) (e : Edit) → eqb (editedNumber (edit strict t e .answer)) 0 ≡ false
-    → edit strict t e .rows ≡ t
+pub edit-refused : (strict : Bool) (ts : Tables) (e : Edit) → eqb (editedNumber (edit strict ts e .answer)) 0 ≡ false
+    → edit strict ts e .rows ≡ ts
 unfolding edit
-edit-refused strict t (put Context row) h =
-    ap (setContexts t) (puts-refused contextIndex noStorage _ strict (contextOf row) _ h)
-edit-refused strict t (put Mapping row) h =
-    ap (setMappings t) (puts-refused mappingIndex _ _ strict (mappingOf row) _ h)
-edit-refused strict t (put Access row) h =
-    ap (setAccesses t) (puts-refused accessIndex _ _ strict (accessOf row) _ h)
-edit-refused strict t (put View row) h =
-    ap (setViews t) (puts-refused viewIndex _ _ strict (viewOf row) _ h)
-edit-refused strict t (remove Context key) h =
-    ap (setContexts t) (removes-refused contextIndex noStorage _ strict _ _ h)
-edit-refused strict t (remove Mapping key) h =
-    ap (setMappings t) (removes-refused mappingIndex _ _ strict _ _ h)
-edit-refused strict t (remove Access key) h =
-    ap (setAccesses t) (removes-refused accessIndex _ _ strict _ _ h)
-edit-refused strict t (remove View key) h =
-    ap (setViews t) (removes-refused viewIndex _ _ strict _ _ h)
+edit-refused strict ts (put t row) h =
+    ap (withRows t ts) (puts-refused (rowIndex t) (storageOf t) (limit t) strict (rowOf t row) (rowsOf t ts) h) ∙ own-rows t ts
+edit-refused strict ts (remove t key) h =
+    ap (withRows t ts) (removes-refused (rowIndex t) (storageOf t) (limit t) strict (indexOfEdit (remove t key)) (rowsOf t ts) h) ∙ own-rows t ts
 
 -- a put is not answered 'table full'
 abbrev pub HasRoom : Edit → Outcome Tables → Type 0
@@ -98,66 +81,66 @@ module _ (w : Circle) where
   unfolding edit
   edit-in strict t (put Context row) i h q = refl
   edit-in strict t (put Mapping row) i h q =
-      ap (inMappings (circleRows w t))
+      ap (inTable Mapping (circleRows w t))
       (puts-in mappingIndex _ _ (mappingIn w) strict (mappingOf row) _ (λ x e. mapping-put row x e ∙ h) h (i .mappings .0) q)
   edit-in strict t (put Access row) i h q =
-      ap (inAccesses (circleRows w t))
+      ap (inTable Access (circleRows w t))
       (puts-in accessIndex _ _ (accessIn w) strict (accessOf row) _ (λ x e. access-put row x e ∙ h) h (i .accesses .0) q)
   edit-in strict t (put View row) i h q =
-      ap (inViews (circleRows w t))
+      ap (inTable View (circleRows w t))
       (puts-in viewIndex _ _ (viewIn w) strict (viewOf row) _ (λ x e. view-put row x e ∙ h) h (i .views .0) q)
   edit-in strict t (remove Context key) i h q = refl
   edit-in strict t (remove Mapping key) i h q =
-      ap (inMappings (circleRows w t)) (removes-in mappingIndex _ _ (mappingIn w) strict _ _ (λ x e. mapping-remove key x e ∙ h))
+      ap (inTable Mapping (circleRows w t)) (removes-in mappingIndex _ _ (mappingIn w) strict _ _ (λ x e. mapping-remove key x e ∙ h))
   edit-in strict t (remove Access key) i h q =
-      ap (inAccesses (circleRows w t)) (removes-in accessIndex _ _ (accessIn w) strict _ _ (λ x e. access-remove key x e ∙ h))
+      ap (inTable Access (circleRows w t)) (removes-in accessIndex _ _ (accessIn w) strict _ _ (λ x e. access-remove key x e ∙ h))
   edit-in strict t (remove View key) i h q =
-      ap (inViews (circleRows w t)) (removes-in viewIndex _ _ (viewIn w) strict _ _ (λ x e. view-remove key x e ∙ h))
+      ap (inTable View (circleRows w t)) (removes-in viewIndex _ _ (viewIn w) strict _ _ (λ x e. view-remove key x e ∙ h))
 
   -- outside of it
   pub edit-out : (strict : Bool) (t : Tables) (e : Edit) → ofCircle w e ≡ false → circleRows w (edit strict t e .rows) ≡ circleRows w t
   unfolding edit
   edit-out strict t (put Context row) h = clash refl h
   edit-out strict t (put Mapping row) h =
-      ap (setMappings (circleRows w t))
+      ap (withRows Mapping (circleRows w t))
       (puts-out mappingIndex _ _ (mappingIn w) strict (mappingOf row) _ (λ x e. mapping-put row x e ∙ h) h)
   edit-out strict t (put Access row) h =
-      ap (setAccesses (circleRows w t))
+      ap (withRows Access (circleRows w t))
       (puts-out accessIndex _ _ (accessIn w) strict (accessOf row) _ (λ x e. access-put row x e ∙ h) h)
   edit-out strict t (put View row) h =
-      ap (setViews (circleRows w t))
+      ap (withRows View (circleRows w t))
       (puts-out viewIndex _ _ (viewIn w) strict (viewOf row) _ (λ x e. view-put row x e ∙ h) h)
   edit-out strict t (remove Context key) h = clash refl h
   edit-out strict t (remove Mapping key) h =
-      ap (setMappings (circleRows w t))
+      ap (withRows Mapping (circleRows w t))
       (removes-out mappingIndex _ _ (mappingIn w) strict _ _ (λ x e. mapping-remove key x e ∙ h))
   edit-out strict t (remove Access key) h =
-      ap (setAccesses (circleRows w t))
+      ap (withRows Access (circleRows w t))
       (removes-out accessIndex _ _ (accessIn w) strict _ _ (λ x e. access-remove key x e ∙ h))
   edit-out strict t (remove View key) h =
-      ap (setViews (circleRows w t))
+      ap (withRows View (circleRows w t))
       (removes-out viewIndex _ _ (viewIn w) strict _ _ (λ x e. view-remove key x e ∙ h))
 
   -- an edit that fits
   abbrev pub fits : Edit → Bool
   fits e = implies (ofCircle w e) (mapsToGroup w e && givesChosen w e)
 
-  with-contexts : (t : Tables) (rs : List ContextRow) → Orderly w t → Fitting contextIndex (λ r. true) rs → Orderly w (setContexts t rs)
+  with-contexts : (t : Tables) (rs : List ContextRow) → Orderly w t → Fitting contextIndex (λ r. true) rs → Orderly w (withRows Context t rs)
   with-contexts t rs i f = record { contexts = f; mappings = i .mappings; accesses = i .accesses; views = i .views }
 
-  with-mappings : (t : Tables) (rs : List MappingRow) → Orderly w t → Fitting mappingIndex (mappingFits w) rs → Orderly w (setMappings t rs)
+  with-mappings : (t : Tables) (rs : List MappingRow) → Orderly w t → Fitting mappingIndex (mappingFits w) rs → Orderly w (withRows Mapping t rs)
   with-mappings t rs i f = record { contexts = i .contexts; mappings = f; accesses = i .accesses; views = i .views }
 
-  with-accesses : (t : Tables) (rs : List AccessRow) → Orderly w t → Fitting accessIndex (accessFits w) rs → Orderly w (setAccesses t rs)
+  with-accesses : (t : Tables) (rs : List AccessRow) → Orderly w t → Fitting accessIndex (accessFits w) rs → Orderly w (withRows Access t rs)
   with-accesses t rs i f = record { contexts = i .contexts; mappings = i .mappings; accesses = f; views = i .views }
 
-  with-views : (t : Tables) (rs : List ViewRow) → Orderly w t → Fitting viewIndex (λ r. true) rs → Orderly w (setViews t rs)
+  with-views : (t : Tables) (rs : List ViewRow) → Orderly w t → Fitting viewIndex (λ r. true) rs → Orderly w (withRows View t rs)
   with-views t rs i f = record { contexts = i .contexts; mappings = i .mappings; accesses = i .accesses; views = f }
 
   pub edit-orderly : (strict : Bool) (t : Tables) (e : Edit) → Orderly w t → fits e ≡ true → Orderly w (edit strict t e .rows)
   unfolding edit
   edit-orderly strict t (put Context row) i h =
-      with-contexts t _ i (puts-fitting contextIndex noStorage _ (λ r. true) strict (contextOf row) _ (i .contexts) refl)
+      with-contexts t _ i (puts-fitting contextIndex (storageOf Context) _ (λ r. true) strict (contextOf row) _ (i .contexts) refl)
   edit-orderly strict t (put Mapping row) i h =
       with-mappings t _ i (puts-fitting mappingIndex _ _ (mappingFits w) strict (mappingOf row) _ (i .mappings) (rw and-true at h))
   edit-orderly strict t (put Access row) i h =
@@ -165,7 +148,7 @@ module _ (w : Circle) where
   edit-orderly strict t (put View row) i h =
       with-views t _ i (puts-fitting viewIndex _ _ (λ r. true) strict (viewOf row) _ (i .views) refl)
   edit-orderly strict t (remove Context key) i h =
-      with-contexts t _ i (removes-fitting contextIndex noStorage _ (λ r. true) strict _ _ (i .contexts))
+      with-contexts t _ i (removes-fitting contextIndex (storageOf Context) _ (λ r. true) strict _ _ (i .contexts))
   edit-orderly strict t (remove Mapping key) i h =
       with-mappings t _ i (removes-fitting mappingIndex _ _ (mappingFits w) strict _ _ (i .mappings))
   edit-orderly strict t (remove Access key) i h =

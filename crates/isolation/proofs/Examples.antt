@@ -13,13 +13,16 @@ use Rattle.rows.specs.declared.Table.the-variants.{Context, Mapping, Access, Vi
 use Rattle.rows.specs.Fields.{sequenceFault, integerFault, faults, rowBytes}
 use Rattle.rows.specs.Rows.{keyFields, rowFields}
 use Rattle.rows.specs.Tables.{noRows}
-use Rattle.image.specs.Layout.{laidOut, layoutOf}
-use Rattle.image.specs.Image.{tableFault, rowsFault, tablesAt}
+use Rattle.image_layout.specs.Layout.{laidOut, layoutOf}
+use Rattle.image_judge.specs.Faults.{tableFault, rowsFault, tablesAt}
 use Rattle.image.specs.Store.{room, soundRows, isSound, held}
-use Rattle.procedure.specs.Request.{asked, legalRequest}
-use Rattle.procedure.specs.Decision.{bearsContext, mapsPrincipal, contextFits, candidate, chosenAccess, viewFor, inView, maskBit, agrees, matches, chosenView, decision}
-use Rattle.edits.specs.Edits.{Edit, put, remove, Caller, indexOfEdit, legalEdit, mayPut, mayRemove, puts, removes, edit, legalCaller, ownerEdit, judgement, principalEdit}
-use Rattle.isolation.specs.Isolation.{Call, ask, owner, by, replyNumber, Told, calls, Run, Fresh, Circle, picked, staysInside, insidersEdit, mapsToGroup, givesChosen, findsRoom, othersRefused, Conditions}
+use Rattle.decision_steps.specs.Request.{asked, legalRequest}
+use Rattle.decision_steps.specs.Decision.{bearsContext, mapsPrincipal, contextFits, candidate, chosenAccess, viewFor, inView, maskBit, agrees, matches}
+use Rattle.decision_steps.specs.Decision.{chosenView, decision}
+use Rattle.edit_rules.specs.Edits.{Edit, put, remove, Caller, indexOfEdit, legalEdit, mayPut, mayRemove, puts, removes, edit, legalCaller, judgement}
+use Rattle.edits.specs.Calls.{ownerEdit, principalEdit}
+use Rattle.isolation.specs.Isolation.{Call, ask, owner, by, replyNumber, Told, calls, Run, Fresh, Circle, picked, staysInside, insidersEdit, mapsToGroup}
+use Rattle.isolation.specs.Isolation.{givesChosen, findsRoom, othersRefused, Conditions}
 use Rattle.isolation.proofs.Steps.{step}
 use Rattle.isolation.proofs.Alone.{trace, run-trace}
 

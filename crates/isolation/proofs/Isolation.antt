@@ -13,8 +13,8 @@ use Rattle.rows.specs.Fields.{index}
 use Rattle.rows.specs.Rows.{contextKey}
 use Rattle.rows.specs.Tables.{Tables, noRows}
 use Rattle.image.specs.Store.{held}
-use Rattle.exchange.specs.Tables.{rowAt}
-use Rattle.edits.specs.Edits.{contextIndex, mappingIndex, accessIndex, viewIndex}
+use Rattle.table_update.specs.Tables.{rowAt}
+use Rattle.edit_rules.specs.TableRows.{contextIndex, mappingIndex, accessIndex, viewIndex}
 use Rattle.isolation.specs.Isolation.{Told, calls, Run, Fresh, Circle, mappingIn, accessIn, viewIn, shared, picked, Alike, SameRows, Isolated}
 use Rattle.isolation.proofs.Tables.{rowAt-keep}
 use Rattle.isolation.proofs.Circles.{circleRows, mapping-same, access-same, view-same, orderly-none}

@@ -6,11 +6,12 @@ use lib.Dec.{eqb}
 use Rattle.answers.specs.declared.Cause.{Cause}
 use Rattle.answers.specs.declared.Cause.the-variants.{NoSuchContext, NoGroupName, NoAccessEntry, NoSuchView, NotInView}
 use Rattle.answers.specs.declared.Fault.{Fault}
-use Rattle.answers.specs.declared.Fault.the-variants.{NotSound, OutOfRange, TableFull, RowAbsent, StorageForbids, ContextTable, NotAnInstance, Torn, NotAscending, TooShort}
+use Rattle.answers.specs.declared.Fault.the-variants.{NotSound, OutOfRange, TableFull, RowAbsent, StorageForbids, ContextTable, NotAnInstance, Torn}
+use Rattle.answers.specs.declared.Fault.the-variants.{NotAscending, TooShort}
 use Rattle.answers.specs.Numbers.{causeNumber, faultNumber}
 use Rattle.lists.proofs.Bools.{clash}
-use Rattle.edits.specs.declared.Edited.{Edited}
-use Rattle.edits.specs.declared.Edited.the-variants.{Done, Barred, Faulty}
+use Rattle.edit_rules.specs.declared.Edited.{Edited}
+use Rattle.edit_rules.specs.declared.Edited.the-variants.{Done, Barred, Faulty}
 use Rattle.edits.specs.Calls.{editedNumber}
 
 cause-nine : (c : Cause) → eqb (causeNumber c) 9 ≡ false

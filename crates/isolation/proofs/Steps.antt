@@ -13,13 +13,15 @@ use Rattle.answers.specs.declared.Decision.the-variants.{Allowed, Refused}
 use Rattle.lists.proofs.Bools.{split, and-both, not-true}
 use Rattle.rows.specs.Tables.{Tables}
 use Rattle.image.specs.Store.{held}
-use Rattle.procedure.specs.Request.{asked, legalRequest}
-use Rattle.procedure.specs.Decision.{judged, answer}
-use Rattle.edits.specs.declared.Edited.{Edited}
-use Rattle.instance.specs.Instances.{instance, statusColumn}
-use Rattle.edits.specs.Edits.{Edit, put, remove, Caller, Outcome, tableOf, indexOfEdit, legalEdit, legalCaller, isContext, edit, allowed, judgement, ownerEdit, principalEdit}
-use Rattle.edits.specs.Calls.{editedNumber, answered, left, Edits}
-use Rattle.isolation.specs.Isolation.{Call, ask, owner, by, Reply, decided, edited, Does, Circle, ofCircle, isMember, shared, implies, staysInside, insidersEdit, mapsToGroup, givesChosen, findsRoom, othersRefused}
+use Rattle.decision_steps.specs.Request.{asked, legalRequest}
+use Rattle.decision_steps.specs.Decision.{ifLegal, answer}
+use Rattle.edit_rules.specs.declared.Edited.{Edited}
+use Rattle.instance_encode.specs.Instances.{instance, statusColumn}
+use Rattle.edit_rules.specs.Edits.{Edit, put, remove, Caller, Outcome, tableOf, indexOfEdit, legalEdit, legalCaller, isContext, edit, judgement}
+use Rattle.edits.specs.Calls.{allowed, ownerEdit, principalEdit, editedNumber}
+use Rattle.edit_rows.specs.Promise.{answered, left, Edits}
+use Rattle.isolation.specs.Isolation.{Call, ask, owner, by, Reply, decided, edited, Does, Circle, ofCircle, isMember, shared, implies, staysInside}
+use Rattle.isolation.specs.Isolation.{insidersEdit, mapsToGroup, givesChosen, findsRoom, othersRefused}
 use Rattle.isolation.proofs.Circles.{implied, circleRows, Orderly}
 use Rattle.isolation.proofs.Decisions.{decision-keep}
 use Rattle.isolation.proofs.Edits.{HasRoom, circleOf, fits, edit-refused, edit-in, edit-out, edit-orderly}
@@ -28,7 +30,7 @@ abbrev pub stepped : Outcome Tables → Reply × Tables
 stepped o = (edited (o .answer), o .rows)
 
 unfoldable pub step : Tables → Call → Reply × Tables
-step t (ask q) = (decided (judged (legalRequest q) t q), t)
+step t (ask q) = (decided (ifLegal (legalRequest q) t q), t)
 step t (owner e) = stepped (ownerEdit t e)
 step t (by c e) = stepped (principalEdit t c e)
 
@@ -135,7 +137,7 @@ module _ (w : Circle) where
   step-shared t (ask q) i h st ro = go (legalRequest q)
     where
       go : (b : Bool)
-          → _≡_ {A = Reply × Tables} (decided (judged b (circleRows w t) q), circleRows w t) (decided (judged b t q), circleRows w t)
+          → _≡_ {A = Reply × Tables} (decided (ifLegal b (circleRows w t) q), circleRows w t) (decided (ifLegal b t q), circleRows w t)
       go true = rw (decision-keep w q t i h)
       go false = refl
   step-shared t (owner e) i h st ro =

@@ -15,10 +15,11 @@ use Rattle.lists.specs.Lists.{keep}
 use Rattle.lists.proofs.Bools.{split, clash}
 use Rattle.lists.proofs.Greatest.{Ascends}
 use Rattle.rows.specs.Rows.{limit}
-use Rattle.exchange.specs.Tables.{rowAt, putRow, removeRow}
-use Rattle.edits.specs.Edits.{Outcome, mayPut, mayRemove, putOver, removeOver, puts, removes}
+use Rattle.table_update.specs.Tables.{rowAt, putRow, removeRow}
+use Rattle.edit_rules.specs.Edits.{Outcome, mayPut, mayRemove, putOver, removeOver, puts, removes}
 use Rattle.edits.specs.Calls.{editedNumber}
-use Rattle.isolation.proofs.Tables.{length-keep, ascends-put, ascends-remove, every-put, every-remove, keep-put-in, keep-put-out, keep-remove-in, keep-remove-out, rowAt-keep}
+use Rattle.isolation.proofs.Tables.{length-keep, ascends-put, ascends-remove, every-put, every-remove, keep-put-in, keep-put-out, keep-remove-in}
+use Rattle.isolation.proofs.Tables.{keep-remove-out, rowAt-keep}
 use Rattle.isolation.proofs.Circles.{Fitting}
 
 module _ {R : Type 0} (indexOf : R → List ℕ) (storageOf : R → ℕ) (limit : ℕ) where

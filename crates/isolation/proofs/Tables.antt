@@ -14,7 +14,7 @@ use Rattle.lists.proofs.Bools.{split, and-left, and-right}
 use Rattle.lists.proofs.Orders.{same-true, before-not-same, before-total}
 use Rattle.lists.proofs.Keeps.{keep-keep, find-first}
 use Rattle.lists.proofs.Greatest.{Under, Ascends, under-trans, under-keep}
-use Rattle.exchange.specs.Tables.{rowAt, putRow, removeRow}
+use Rattle.table_update.specs.Tables.{rowAt, putRow, removeRow}
 
 module _ {A : Type 0} where
   pub find-keep : (p f : A → Bool) (xs : List A) → ((x : A) → f x ≡ true → p x ≡ true) → find f (keep p xs) ≡ find f xs

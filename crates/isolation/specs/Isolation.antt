@@ -13,14 +13,16 @@ use Rattle.lists.specs.Lists.{keep, every}
 use Rattle.lists.specs.Order.{same}
 use Rattle.rows.specs.declared.Table.the-variants.{Context, Mapping, Access, View}
 use Rattle.rows.specs.Fields.{values, index}
-use Rattle.rows.specs.Rows.{MappingRow, AccessRow, ViewRow, contextKey, mappingKey, accessKey, viewKey, keyFields, fieldAt, numberAt, mappingOf, accessOf, viewOf}
+use Rattle.rows.specs.Rows.{MappingRow, AccessRow, ViewRow, contextKey, mappingKey, accessKey, viewKey, keyFields, fieldAt, numberAt, mappingOf, accessOf}
+use Rattle.rows.specs.Rows.{viewOf}
 use Rattle.rows.specs.Tables.{Tables, noRows}
 use Rattle.image.specs.Store.{held}
-use Rattle.procedure.specs.Request.{Request}
-use Rattle.procedure.specs.Decision.{answer}
-use Rattle.edits.specs.declared.Edited.{Edited}
-use Rattle.exchange.specs.Tables.{rowAt}
-use Rattle.edits.specs.Edits.{Edit, put, remove, Caller, contextIndex, mappingIndex, accessIndex, viewIndex}
+use Rattle.decision_steps.specs.Request.{Request}
+use Rattle.decision_steps.specs.Decision.{answer}
+use Rattle.edit_rules.specs.declared.Edited.{Edited}
+use Rattle.table_update.specs.Tables.{rowAt}
+use Rattle.edit_rules.specs.Edits.{Edit, put, remove, Caller}
+use Rattle.edit_rules.specs.TableRows.{contextIndex, mappingIndex, accessIndex, viewIndex}
 use Rattle.edits.specs.Calls.{editedNumber, OwnerEdits, PrincipalEdits}
 
 -- ---- the calls, and what each of them does

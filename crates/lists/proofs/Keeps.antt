@@ -9,7 +9,8 @@ use mathlib.Core.Option.{Option, none, some, Option·map}
 use Prim.Native.Nat.{ℕ, max}
 use lib.Dec.{eqb}
 use Rattle.lists.specs.Lists.{keep, every, any, first, find, greatest, top, OnSome}
-use Rattle.lists.proofs.Bools.{split, clash, and-left, and-right, and-both, or-left, or-right, or-true, or-false-left, or-false-right, not-is-true, test-ext}
+use Rattle.lists.proofs.Bools.{split, clash, and-left, and-right, and-both, or-left, or-right, or-true, or-false-left, or-false-right, not-is-true}
+use Rattle.lists.proofs.Bools.{test-ext}
 
 module _ {A : Type 0} where
   -- every

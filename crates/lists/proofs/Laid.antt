@@ -8,7 +8,7 @@ use native.Mathlib.Nat.{add-zero, add-assoc}
 use native.Mathlib.Numerals.{add-one}
 use native.Mathlib.Omega.{arith}
 use lib.ListN.{length, take, drop, set, getD, length-append, length-drop, take-append-drop, drop-of-length-le}
-use lib.Seq.{length-take-le, take-at, drop-at, drop-drop, take-add, take-all, drop-cons, set-split, sets, sets-eq}
+use lib.Seq.{length-take-le, take-at, drop-at, drop-drop, take-add, take-all, drop-cons, set-split, sets, sets-eq, take-length, paste}
 use Rattle.lists.specs.Laid.{laid}
 
 pub laid-nil : (at : ℕ) (w : List ℕ) → laid at [] w ≡ w
@@ -59,6 +59,10 @@ laid-sets at b w h = sets-eq b w at h ∙ append-assoc (take at w) b (drop (at +
 -- a part lent, which came back as b
 pub laid-part : (at k : ℕ) (b w : List ℕ) → length b ≡ k → take at w ++ (b ++ drop k (drop at w)) ≡ laid at b w
 laid-part at k b w h = rw (drop-drop k at w, h)
+
+-- a copy of all of b
+pub laid-paste : (at : ℕ) (b w : List ℕ) → paste w at b (length b) ≡ laid at b w
+laid-paste at b w = rw (take-length b) (append-assoc (take at w) b (drop (at + length b) w))
 
 -- laid over the whole
 pub laid-whole : (b w : List ℕ) → length b ≡ length w → laid 0 b w ≡ b

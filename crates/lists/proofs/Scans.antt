@@ -44,7 +44,8 @@ module _ {A : Type 0} where
   latest-is p xs = latest-keep p none xs ∙ latest-all (keep p xs)
 
   -- where the last passes, the others count for nothing
-  latest-ends : (p : A → Bool) (o u : Option A) (x : A) (xs : List A) → OnSome (λ y. p y ≡ true) (last (x ∷ xs)) → latest p o (x ∷ xs) ≡ latest (λ y. true) u (x ∷ xs)
+  latest-ends : (p : A → Bool) (o u : Option A) (x : A) (xs : List A) → OnSome (λ y. p y ≡ true) (last (x ∷ xs)) → latest p o (x ∷ xs) ≡ latest
+      (λ y. true) u (x ∷ xs)
   latest-ends p o u x [] h = cond-true (some x) o h
   latest-ends p o u x (y ∷ ys) h = latest-ends p (cond (p x) (some x) o) (some x) y ys h
 
@@ -53,7 +54,8 @@ module _ {A : Type 0} where
   last-keep p (x ∷ xs) h = sym (latest-is p (x ∷ xs)) ∙ latest-ends p none none x xs h ∙ latest-last x xs
 
   module _ (p g : A → Bool) where
-    pub latest-on-from : (o : Option A) (xs : List A) → OnSome (λ y. (p y ≡ true) × (g y ≡ true)) o → every g xs ≡ true → OnSome (λ y. (p y ≡ true) × (g y ≡ true)) (latest p o xs)
+    pub latest-on-from : (o : Option A) (xs : List A) → OnSome (λ y. (p y ≡ true) × (g y ≡ true)) o → every g xs ≡ true → OnSome
+        (λ y. (p y ≡ true) × (g y ≡ true)) (latest p o xs)
     latest-on-from o [] i a = i
     latest-on-from o (x ∷ xs) i a =
         split (p x)
@@ -115,14 +117,16 @@ module _ {A : Type 0} where
     best-is xs = best-keep none xs ∙ best-none (keep (λ x. ltb 0 (f x)) xs) (every-kept (λ x. ltb 0 (f x)) xs)
 
     module _ (g : A → Bool) where
-      better-on : (o : Option A) (x : A) → OnSome (λ y. (ltb 0 (f y) ≡ true) × (g y ≡ true)) o → g x ≡ true → OnSome (λ y. (ltb 0 (f y) ≡ true) × (g y ≡ true)) (better f o x)
+      better-on : (o : Option A) (x : A) → OnSome (λ y. (ltb 0 (f y) ≡ true) × (g y ≡ true)) o → g x ≡ true → OnSome
+          (λ y. (ltb 0 (f y) ≡ true) × (g y ≡ true)) (better f o x)
       better-on none x i h = split (ltb 0 (f x)) (λ e. rw e (e, h)) (λ e. rw e tt)
       better-on (some y) x i h =
           split (ltb (f y) (f x))
           (λ e. let l : f y < f x = ltb-true (f y) (f x) e in rw e (lt-ltb 0 (f x) (omega arith), h))
           (λ e. rw e i)
 
-      pub best-on-from : (o : Option A) (xs : List A) → OnSome (λ y. (ltb 0 (f y) ≡ true) × (g y ≡ true)) o → every g xs ≡ true → OnSome (λ y. (ltb 0 (f y) ≡ true) × (g y ≡ true)) (best f o xs)
+      pub best-on-from : (o : Option A) (xs : List A) → OnSome (λ y. (ltb 0 (f y) ≡ true) × (g y ≡ true)) o → every g xs ≡ true → OnSome
+          (λ y. (ltb 0 (f y) ≡ true) × (g y ≡ true)) (best f o xs)
       best-on-from o [] i a = i
       best-on-from o (x ∷ xs) i a = best-on-from (better f o x) xs (better-on o x i (and-left (g x) _ a)) (and-right (g x) _ a)
 

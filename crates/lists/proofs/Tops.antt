@@ -11,9 +11,11 @@ use native.Mathlib.Omega.{arith}
 use lib.Dec.{eqb, leb, ltb}
 use borrow.Author.Tests.{ltb-true, ltb-false, leb-true, eqb-true, le-leb, eq-eqb, ne-eqb}
 use Rattle.lists.specs.Lists.{keep, every, any, greatest, top}
-use Rattle.lists.proofs.Bools.{split, clash, and-left, and-right, and-both, or-left, or-right, or-true, or-true-right, not-is-false, test-ext, cond-true, cond-false}
+use Rattle.lists.proofs.Bools.{split, clash, and-left, and-right, and-both, or-left, or-right, or-true, or-true-right, not-is-false, test-ext}
+use Rattle.lists.proofs.Bools.{cond-true, cond-false}
 use Rattle.lists.proofs.Orders.{Tri, tri, below, equal, above}
-use Rattle.lists.proofs.Keeps.{every-all, every-imp, every-both, every-unkept, every-top, keep-ext, keep-ext-on, keep-and, keep-all, any-imp, any-kept, any-every}
+use Rattle.lists.proofs.Keeps.{every-all, every-imp, every-both, every-unkept, every-top, keep-ext, keep-ext-on, keep-and, keep-all, any-imp, any-kept}
+use Rattle.lists.proofs.Keeps.{any-every}
 
 module _ {A : Type 0} (f : A → ℕ) where
   pub greatest-le : (m : ℕ) (xs : List A) → every (λ x. leb (f x) m) xs ≡ true → greatest f xs ≤ m

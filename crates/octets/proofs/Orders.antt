@@ -1,56 +1,25 @@
--- Laws of `sameEight` and `order`. Octets that are the same, one after another, make the fronts of two lists the same, so much further;
--- and lists whose fronts are the same stand to each other as what follows the fronts does, so that the first octet that differs decides,
--- or else the length. What each answer of `order` says of `before` comes last. Assumes nothing.
+-- Laws of `order`. Lists whose fronts are the same stand to each other as what follows the fronts does, so that the first octet that differs
+-- decides, or else the length; and four octets stand as the numbers do that they say, octets being below 256.
+-- What each answer of `order` says of `before` comes last. Assumes nothing.
 use mathlib.Core.Path.{_≡_, refl, sym, ap₂, _∙_}
 use mathlib.Core.List.{List, [], _∷_, _++_}
-use mathlib.Core.Bool.{Bool, true, false, cond, _&&_, _||_}
-use Prim.Native.Nat.{ℕ, zero, suc, _+_, _≤_, _<_, min}
-use native.Mathlib.Nat.{add-zero, add-suc, add-assoc}
-use native.Mathlib.Numerals.{add-one}
+use mathlib.Core.Bool.{Bool, true, false, cond, _||_}
+use Prim.Native.Nat.{ℕ, _+_, _≤_, _<_, min}
 use native.Mathlib.Omega.{arith}
-use lib.Dec.{eqb, ltb}
-use lib.ListN.{length, take, drop, getD, take-append-drop, drop-of-length-le}
-use lib.Seq.{take-suc, take-all, drop-cons}
-use borrow.Author.Tests.{lt-ltb, le-ltb, ne-eqb, eq-eqb, eqb-true, ltb-true, ltb-false}
+use lib.Dec.{ltb}
+use lib.ListN.{length, take, drop, getD, length-drop, take-append-drop, drop-of-length-le}
+use lib.Seq.{drop-cons}
+use borrow.Author.Tests.{lt-ltb, le-ltb, ne-eqb, ltb-true, ltb-false}
 use Rattle.lists.specs.Order.{same, before}
-use Rattle.lists.proofs.Bools.{split, and-left, and-right}
-use Rattle.lists.proofs.Orders.{same-append, same-refl, same-true, before-append, before-irrefl, before-total}
-use Rattle.octets.specs.Order.{order, sameEight, four}
+use Rattle.lists.proofs.Bools.{split}
+use Rattle.lists.proofs.Orders.{Tri, tri, below, equal, above, same-append, same-refl, same-true, before-append, before-irrefl, before-total, before-cons-lt}
+use Rattle.lists.proofs.Orders.{before-cons-gt, before-cons-eq}
+use Rattle.big_endian.specs.BigEndian.{quad, number, Octets}
+use Rattle.big_endian.proofs.BigEndian.{octets-drop}
+use Rattle.octets.proofs.Sames.{take-whole}
+use Rattle.octets.specs.Order.{order}
 use Rattle.octets.specs.declared.Order.{Order}
 use Rattle.octets.specs.declared.Order.the-variants.{Below, Equal, Above}
-
--- k octets from i on are the same, one by one
-abbrev sameRun : List ℕ → List ℕ → ℕ → ℕ → Bool
-sameRun a b i zero = true
-sameRun a b i (suc k) = sameRun a b i k && eqb (getD a (i + k) 0) (getD b (i + k) 0)
-
--- fronts that are the same stay the same with one octet more, or k, or 8, or 32, where those are the same
-module _ (a b : List ℕ) where
-  pub take-next : (i : ℕ) → i < length a → i < length b → take i a ≡ take i b → getD a i 0 ≡ getD b i 0 → take (i + 1) a ≡ take (i + 1) b
-  take-next i ha hb t e = rw (add-one, take-suc a i 0, take-suc b i 0, t, e)
-
-  take-run : (i k : ℕ) → i + k ≤ length a → i + k ≤ length b → take i a ≡ take i b → sameRun a b i k ≡ true → take (i + k) a ≡ take (i + k) b
-  take-run i zero ha hb t e = rw add-zero t
-  take-run i (suc k) ha hb t e =
-      let ih = take-run i k (omega arith) (omega arith) t (and-left _ _ e) in
-      rw (add-suc, ← add-one) (take-next (i + k) (omega arith) (omega arith) ih (eqb-true _ _ (and-right (sameRun a b i k) _ e)))
-
-  pub take-eight : (i : ℕ) → i + 8 ≤ length a → i + 8 ≤ length b → take i a ≡ take i b → sameEight a b i ≡ true → take (i + 8) a ≡ take (i + 8) b
-  take-eight i ha hb t e = take-run i 8 ha hb t (rw add-zero e)
-
-  pub take-four-eights : (i : ℕ) {p q r s : Bool} → i + 32 ≤ length a → i + 32 ≤ length b → take i a ≡ take i b
-      → p ≡ sameEight a b i → q ≡ sameEight a b (i + 8) → r ≡ sameEight a b (i + 16) → s ≡ sameEight a b (i + 24) → p && q && r && s ≡ true
-      → take (i + 32) a ≡ take (i + 32) b
-  take-four-eights i {p} {q} {r} {s} ha hb t ep eq er es h =
-      let next : (k : ℕ) → k ≤ 24 → take (i + k) a ≡ take (i + k) b → sameEight a b (i + k) ≡ true → take (i + (k + 8)) a ≡ take (i + (k + 8)) b =
-      λ k l u v. rw (← add-assoc) (take-eight (i + k) (omega arith) (omega arith) u v) in
-      let all : (p ≡ true) × (q ≡ true) × (r ≡ true) × (s ≡ true) = search (and-left, and-right) in
-      let first = take-eight i (omega arith) (omega arith) t (sym ep ∙ all .0) in
-      next 24 (omega arith) (next 16 (omega arith) (next 8 (omega arith) first (sym eq ∙ all .1)) (sym er ∙ all .2)) (sym es ∙ all .3)
-
-  -- fronts that are the whole lists
-  pub take-whole : (i : ℕ) → length a ≤ i → length b ≤ i → take i a ≡ take i b → a ≡ b
-  take-whole i ha hb t = sym (take-all i a ha) ∙ t ∙ take-all i b hb
 
 not-before-nothing : (a : List ℕ) → before a [] ≡ false
 unfolding before
@@ -124,47 +93,44 @@ module _ (a b : List ℕ) (i : ℕ) (t : take i a ≡ take i b) where
       let hb : length b ≤ i = omega arith in
       before-drop ∙ rw (drop-of-length-le b hb, l) (not-before-nothing (drop i a)))
 
--- four octets as a number: such numbers are the same where the octets are, and else stand as the first octets that differ do
-module _ (a b : List ℕ) (i : ℕ) (t : take i a ≡ take i b) (ha : i + 4 ≤ length a) (hb : i + 4 ≤ length b)
-    (oa : (k : ℕ) → getD a k 0 < 256) (ob : (k : ℕ) → getD b k 0 < 256) where
-  next : (k : ℕ) → k < length a → k < length b → take k a ≡ take k b
-      → (getD a k 0 < getD b k 0 → four a i < four b i) → (getD b k 0 < getD a k 0 → four b i < four a i)
-      → (getD a k 0 ≡ getD b k 0 → before a b ≡ ltb (four a i) (four b i))
-      → before a b ≡ ltb (four a i) (four b i)
-  next k la lb s below above level =
-      split
-      (ltb (getD a k 0) (getD b k 0))
-      (λ l.
-      let p : getD a k 0 < getD b k 0 = ltb-true _ _ l in
-      before-differ a b k s la lb (λ z. omega arith) ∙ l ∙ sym (lt-ltb _ _ (below p)))
-      (λ l.
-      let p : getD b k 0 ≤ getD a k 0 = ltb-false _ _ l in
-      split
-      (ltb (getD b k 0) (getD a k 0))
-      (λ m.
-      let q : getD b k 0 < getD a k 0 = ltb-true _ _ m in
-      let r : four b i < four a i = above q in
-      before-differ a b k s la lb (λ z. omega arith) ∙ l ∙ sym (le-ltb (four a i) (four b i) (omega arith)))
-      (λ m. let q : getD a k 0 ≤ getD b k 0 = ltb-false _ _ m in level (omega arith)))
+-- ---- four octets as a number: such numbers stand to each other as the octets do
 
-  pub take-four : four a i ≡ four b i → take (i + 4) a ≡ take (i + 4) b
-  take-four e =
-      let first : getD a i 0 ≡ getD b i 0 = omega (arith, oa i, oa (i + 1), oa (i + 2), oa (i + 3), ob i, ob (i + 1), ob (i + 2), ob (i + 3)) in
-      let second : getD a (i + 1) 0 ≡ getD b (i + 1) 0 = omega (arith, oa i, oa (i + 1), oa (i + 2), oa (i + 3), ob i, ob (i + 1), ob (i + 2), ob (i + 3)) in
-      let third : getD a (i + 2) 0 ≡ getD b (i + 2) 0 = omega (arith, oa i, oa (i + 1), oa (i + 2), oa (i + 3), ob i, ob (i + 1), ob (i + 2), ob (i + 3)) in
-      let fourth : getD a (i + 3) 0 ≡ getD b (i + 3) 0 = omega (arith, oa i, oa (i + 1), oa (i + 2), oa (i + 3), ob i, ob (i + 1), ob (i + 2), ob (i + 3)) in
-      take-run a b i 4 ha hb t (rw (add-zero, eq-eqb _ _ first, eq-eqb _ _ second, eq-eqb _ _ third, eq-eqb _ _ fourth))
+-- a first digit that differs decides, else the rest does
+digit : (x y m n : ℕ) (u v : List ℕ) → (x < y → m < n) → (y < x → n < m) → (x ≡ y → before u v ≡ ltb m n) → before (x ∷ u) (y ∷ v) ≡ ltb m n
+digit x y m n u v lower higher level = go (tri x y)
+  where
+    go : Tri x y → before (x ∷ u) (y ∷ v) ≡ ltb m n
+    go (below _ _ h) = before-cons-lt x y u v h ∙ sym (lt-ltb m n (lower h))
+    go (above _ _ h) = before-cons-gt x y u v h ∙ sym (le-ltb m n (omega (arith, higher h)))
+    go (equal _ _ h) = rw h (before-cons-eq y u v ∙ level h)
 
-  pub before-four : (four a i ≡ four b i → ⊥) → before a b ≡ ltb (four a i) (four b i)
-  before-four n =
-      next i (omega arith) (omega arith) t (λ p. omega (arith, oa i, oa (i + 1), oa (i + 2), oa (i + 3), ob i, ob (i + 1), ob (i + 2), ob (i + 3))) (λ p. omega (arith, oa i, oa (i + 1), oa (i + 2), oa (i + 3), ob i, ob (i + 1), ob (i + 2), ob (i + 3)))
-      (λ e. let t1 = take-next a b i (omega arith) (omega arith) t e in
-      next (i + 1) (omega arith) (omega arith) t1 (λ p. omega (arith, oa i, oa (i + 1), oa (i + 2), oa (i + 3), ob i, ob (i + 1), ob (i + 2), ob (i + 3))) (λ p. omega (arith, oa i, oa (i + 1), oa (i + 2), oa (i + 3), ob i, ob (i + 1), ob (i + 2), ob (i + 3)))
-      (λ f. let t2 : take (i + 2) a ≡ take (i + 2) b = rw (add-assoc) at (take-next a b (i + 1) (omega arith) (omega arith) t1 f) in
-      next (i + 2) (omega arith) (omega arith) t2 (λ p. omega (arith, oa i, oa (i + 1), oa (i + 2), oa (i + 3), ob i, ob (i + 1), ob (i + 2), ob (i + 3))) (λ p. omega (arith, oa i, oa (i + 1), oa (i + 2), oa (i + 3), ob i, ob (i + 1), ob (i + 2), ob (i + 3)))
-      (λ g. let t3 : take (i + 3) a ≡ take (i + 3) b = rw (add-assoc) at (take-next a b (i + 2) (omega arith) (omega arith) t2 g) in
-      next (i + 3) (omega arith) (omega arith) t3 (λ p. omega (arith, oa i, oa (i + 1), oa (i + 2), oa (i + 3), ob i, ob (i + 1), ob (i + 2), ob (i + 3))) (λ p. omega (arith, oa i, oa (i + 1), oa (i + 2), oa (i + 3), ob i, ob (i + 1), ob (i + 2), ob (i + 3)))
-      (λ h. absurd (n (omega (arith, oa i, oa (i + 1), oa (i + 2), oa (i + 3), ob i, ob (i + 1), ob (i + 2), ob (i + 3))))))))
+four-front : (v : List ℕ) → 4 ≤ length v → v ≡ getD v 0 0 ∷ getD v 1 0 ∷ getD v 2 0 ∷ getD v 3 0 ∷ drop 4 v
+four-front [] h = absurd (omega arith)
+four-front (x ∷ []) h = absurd (omega arith)
+four-front (x ∷ y ∷ []) h = absurd (omega arith)
+four-front (x ∷ y ∷ z ∷ []) h = absurd (omega arith)
+four-front (x ∷ y ∷ z ∷ u ∷ v) h = refl
+
+before-quads : (a b c d p q r s : ℕ) (u v : List ℕ) → b < 256 → c < 256 → d < 256 → q < 256 → r < 256 → s < 256
+    → let x : ℕ = number quad (a ∷ b ∷ c ∷ d ∷ []) in let y : ℕ = number quad (p ∷ q ∷ r ∷ s ∷ []) in
+    (x ≡ y → ⊥) → before (a ∷ b ∷ c ∷ d ∷ u) (p ∷ q ∷ r ∷ s ∷ v) ≡ ltb x y
+before-quads a b c d p q r s u v hb hc hd hq hr hs n =
+    let x : ℕ = number quad (a ∷ b ∷ c ∷ d ∷ []) in
+    let y : ℕ = number quad (p ∷ q ∷ r ∷ s ∷ []) in
+    digit a p x y _ _ (λ h. omega arith) (λ h. omega arith)
+    (λ e. digit b q x y _ _ (λ h. omega arith) (λ h. omega arith)
+    (λ f. digit c r x y _ _ (λ h. omega arith) (λ h. omega arith)
+    (λ g. digit d s x y _ _ (λ h. omega arith) (λ h. omega arith)
+    (λ h. absurd (n (omega arith))))))
+
+pub before-four : (a b : List ℕ) (i : ℕ) → take i a ≡ take i b → i + 4 ≤ length a → i + 4 ≤ length b → Octets a → Octets b
+    → (number quad (drop i a) ≡ number quad (drop i b) → ⊥) → before a b ≡ ltb (number quad (drop i a)) (number quad (drop i b))
+before-four a b i t ha hb oa ob n =
+    let ka = octets-drop i a oa in
+    let kb = octets-drop i b ob in
+    before-drop a b i t
+    ∙ ap₂ before (four-front (drop i a) (omega (arith, length-drop i a))) (four-front (drop i b) (omega (arith, length-drop i b)))
+    ∙ before-quads _ _ _ _ _ _ _ _ (drop 4 (drop i a)) (drop 4 (drop i b)) (ka 1) (ka 2) (ka 3) (kb 1) (kb 2) (kb 3) n
 
 -- what each answer says
 abbrev answer : Bool → Bool → Order

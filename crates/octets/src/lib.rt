@@ -1,53 +1,29 @@
-// Octets of lent slices: compared, many at a time.
+// Octets of lent slices compared, many at a time: whether they are the same, and which stand first.
 ghost use mathlib.Core.Path.{_≡_};
-ghost use Prim.Native.Nat.{_+_, _≤_, _<_, min};
+ghost use Prim.Native.Nat.{_+_, _≤_, min};
 ghost use lib.ListN.{length, take};
 ghost use Rattle.lists.specs.Order.{same, before};
-ghost use Rattle.octets.specs.Order.{order, sameEight, four};
+ghost use Rattle.octets.specs.Same.{sameFour, sameEight};
+ghost use Rattle.octets.specs.Order.{order};
 
-// How one list of octets stands to another.
-pub enum Order {
-    Below,
-    Equal,
-    Above,
+// Whether the four octets at `i` are the same, which is where the numbers that they say are. Joined by `&`, they become one load and one
+// comparison.
+pub fn same_four(a: &[u8], b: &[u8], i: usize) -> bool
+    requires { ⌜ (i + 4 ≤ length (now a)) × (i + 4 ≤ length (now b)) ⌝ }
+    ensures { λ r. ⌜ r ≡ sameFour (now (a .entry)) (now (b .entry)) i ⌝ }
+{
+    (a[i] == b[i]) & (a[i + 1] == b[i + 1]) & (a[i + 2] == b[i + 2]) & (a[i + 3] == b[i + 3])
 }
 
-// Whether the eight octets at `i` are the same. Joined by `&`, they become one load and one comparison.
-fn same_eight(a: &[u8], b: &[u8], i: usize) -> bool
-    requires { ⌜ i + 8 ≤ length (now a) ⌝ }
-    requires { ⌜ i + 8 ≤ length (now b) ⌝ }
+// Whether the eight octets at `i` are the same, by one comparison likewise.
+pub fn same_eight(a: &[u8], b: &[u8], i: usize) -> bool
+    requires { ⌜ (i + 8 ≤ length (now a)) × (i + 8 ≤ length (now b)) ⌝ }
     ensures { λ r. ⌜ r ≡ sameEight (now (a .entry)) (now (b .entry)) i ⌝ }
 {
-    (a[i] == b[i])
-        & (a[i + 1] == b[i + 1])
-        & (a[i + 2] == b[i + 2])
-        & (a[i + 3] == b[i + 3])
-        & (a[i + 4] == b[i + 4])
-        & (a[i + 5] == b[i + 5])
-        & (a[i + 6] == b[i + 6])
-        & (a[i + 7] == b[i + 7])
+    same_four(a, b, i) & same_four(a, b, i + 4)
 }
 
-// A number of octets, at most `n`, that are the same in front: 32 a turn.
-fn skip_long(a: &[u8], b: &[u8], n: usize) -> usize
-    requires { ⌜ n ≤ length (now a) ⌝ }
-    requires { ⌜ n ≤ length (now b) ⌝ }
-    ensures { λ r. ⌜ (r ≤ n) × (take r (now (a .entry)) ≡ take r (now (b .entry))) ⌝ }
-{
-    let mut i = 0;
-    while 32 <= n - i {
-        if !(same_eight(a, b, i)
-            & same_eight(a, b, i + 8)
-            & same_eight(a, b, i + 16)
-            & same_eight(a, b, i + 24)) {
-            return i;
-        }
-        i += 32;
-    }
-    i
-}
-
-// The same where the first `from` are known to be the same: 8 a turn.
+// A number of octets, at most `n`, that are the same in front, where the first `from` are known to be: 8 a turn.
 pub fn skip(a: &[u8], b: &[u8], from: usize, n: usize) -> usize
     requires { ⌜ from ≤ n ⌝ }
     requires { ⌜ n ≤ length (now a) ⌝ }
@@ -65,7 +41,7 @@ pub fn skip(a: &[u8], b: &[u8], from: usize, n: usize) -> usize
     i
 }
 
-// Names of a table mostly differ at their end, so the last octet is looked at first.
+// Whether both have the same octets. Names of a table mostly differ at their end, so the last octet is looked at first.
 pub fn are_same(a: &[u8], b: &[u8]) -> bool
     ensures { λ r. ⌜ r ≡ same (now (a .entry)) (now (b .entry)) ⌝ }
 {
@@ -90,7 +66,36 @@ pub fn are_same(a: &[u8], b: &[u8]) -> bool
     true
 }
 
-pub fn shorter(a: usize, b: usize) -> usize
+// ---- order
+
+// How one list of octets stands to another.
+pub enum Order {
+    Below,
+    Equal,
+    Above,
+}
+
+// A number of octets, at most `n`, that are the same in front: 32 a turn.
+fn skip_long(a: &[u8], b: &[u8], n: usize) -> usize
+    requires { ⌜ n ≤ length (now a) ⌝ }
+    requires { ⌜ n ≤ length (now b) ⌝ }
+    ensures { λ r. ⌜ (r ≤ n) × (take r (now (a .entry)) ≡ take r (now (b .entry))) ⌝ }
+{
+    let mut i = 0;
+    while 32 <= n - i {
+        if !(same_eight(a, b, i)
+            & same_eight(a, b, i + 8)
+            & same_eight(a, b, i + 16)
+            & same_eight(a, b, i + 24)) {
+            return i;
+        }
+        i += 32;
+    }
+    i
+}
+
+// The shorter of two lengths.
+fn shorter(a: usize, b: usize) -> usize
     ensures { λ r. ⌜ r ≡ min a b ⌝ }
 {
     if a < b {
@@ -99,29 +104,16 @@ pub fn shorter(a: usize, b: usize) -> usize
     b
 }
 
-fn wide(x: u8) -> usize
-    ensures { λ r. ⌜ (r ≡ x) × (r < 256) ⌝ }
-{
-    x as usize
-}
-
-// The four octets at `i` as one number, big-endian: such numbers stand to each other as the octets do.
-fn four_at(a: &[u8], i: usize) -> usize
-    requires { ⌜ i + 4 ≤ length (now a) ⌝ }
-    ensures { λ r. ⌜ r ≡ four (now (a .entry)) i ⌝ }
-{
-    wide(a[i]) * 16777216 + wide(a[i + 1]) * 65536 + wide(a[i + 2]) * 256 + wide(a[i + 3])
-}
-
-// Whether `a` stands before `b`. Called at one place, so that the compiler puts it there whole.
+// Whether `a` stands before `b`. Four octets are compared as one number, big-endian: such numbers stand to each other as the octets do.
+// Called at one place, so that the compiler puts it there whole.
 pub fn ascends(a: &[u8], b: &[u8]) -> bool
     ensures { λ r. ⌜ r ≡ before (now (a .entry)) (now (b .entry)) ⌝ }
 {
     let n = shorter(a.len(), b.len());
     let mut i = skip(a, b, skip_long(a, b, n), n);
     if 4 <= n - i {
-        let x = four_at(a, i);
-        let y = four_at(b, i);
+        let x = big_endian::quad_at(a, i);
+        let y = big_endian::quad_at(b, i);
         if x != y {
             return x < y;
         }
@@ -138,6 +130,7 @@ pub fn ascends(a: &[u8], b: &[u8]) -> bool
     a.len() < b.len()
 }
 
+// How `a` stands to `b`.
 pub fn compare(a: &[u8], b: &[u8]) -> Order
     ensures { λ r. ⌜ r ≡ order (now (a .entry)) (now (b .entry)) ⌝ }
 {

@@ -10,10 +10,11 @@ use Rattle.rows.specs.declared.Table.the-variants.{Mapping}
 use Rattle.rows.specs.Fields.{index}
 use Rattle.rows.specs.Rows.{keyFields, rowFields}
 use Rattle.rows.specs.Tables.{Tables, noRows}
-use Rattle.procedure.specs.Request.{Request, asked, legalRequest}
-use Rattle.procedure.specs.Decision.{answer, decision, bearsContext, mapsPrincipal, contextFits, candidate, chosenAccess, viewFor, inView, maskBit, agrees, matches, chosenView}
-use Rattle.instance.specs.Instances.{instance}
-use Rattle.imaging.specs.Imaging.{imageOf, rowsOf}
+use Rattle.decision_steps.specs.Request.{Request, asked, legalRequest}
+use Rattle.decision_steps.specs.Decision.{answer, decision, bearsContext, mapsPrincipal, contextFits, candidate, chosenAccess, viewFor, inView, maskBit}
+use Rattle.decision_steps.specs.Decision.{agrees, matches, chosenView}
+use Rattle.instance_encode.specs.Instances.{instance}
+use Rattle.image_transfer.specs.Transfer.{imageOf, rowsOf}
 use Rattle.ridge.specs.Ridge.{ridgeTables, ann, bob, cal, ridge, ridge1}
 
 pub data Example : Type 0 where
@@ -82,5 +83,6 @@ expected (isImage tables image) = image
 
 -- they are the same in each example
 pub examples-hold : map given examples ≡ map expected examples
-unfolding decision legalRequest bearsContext mapsPrincipal contextFits candidate chosenAccess viewFor inView maskBit agrees matches chosenView same before begins keyFields rowFields imageOf rowsOf
+unfolding decision legalRequest bearsContext mapsPrincipal contextFits candidate chosenAccess viewFor inView maskBit agrees matches chosenView same
+    before begins keyFields rowFields imageOf rowsOf
 examples-hold = refl

@@ -8,8 +8,9 @@ use Rattle.rows.specs.Fields.{sequenceFault, integerFault, faults, span}
 use Rattle.rows.specs.Rows.{ContextRow, MappingRow, AccessRow, ViewRow, keyFields, rowFields}
 use Rattle.rows.specs.Tables.{Tables}
 use Rattle.lists.specs.Order.{same, before}
-use Rattle.image.specs.Layout.{laidOut, layoutOf}
-use Rattle.image.specs.Image.{imageFault, sizedFault, rowsFault, tableFault, tablesAt, tablesIn}
+use Rattle.image_layout.specs.Layout.{laidOut, layoutOf}
+use Rattle.image.specs.Image.{imageFault, sizedFault}
+use Rattle.image_judge.specs.Faults.{rowsFault, tableFault, tablesAt, tablesIn}
 
 -- ---- names
 

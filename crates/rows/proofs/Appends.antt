@@ -13,8 +13,7 @@ use Rattle.answers.specs.declared.Fault.{Fault}
 use Rattle.rows.specs.declared.Table.{Table}
 use Rattle.rows.specs.declared.Table.the-variants.{Context, Mapping, Access, View}
 use Rattle.rows.specs.Fields.{Field, fault, taken, value, orElse, fronts, faults, values, span}
-use Rattle.rows.specs.Rows.{keyFields, rowFields}
-pub use Rattle.rows.specs.Rows.{restFields}
+use Rattle.rows.specs.Rows.{keyFields, restFields, rowFields}
 use Rattle.rows.proofs.Sound.{field-room, or-else-none}
 
 pub span-append : (ps qs : List Field) (v : List ℕ) → span (ps ++ qs) v ≡ span ps v + span qs (drop (span ps v) v)

@@ -1,17 +1,17 @@
 -- A row without fault is no longer than its fields allow: a sequence has at most its largest count of parts, a number its width.
--- By table that is 33, 72, 173 and 310 bytes, and with every table full an image has 46,456. Assumes nothing.
+-- By table that is 33, 72, 173 and 310 bytes, of a key 290 at most, and with every table full an image has 46,456. Assumes nothing.
 use mathlib.Core.Path.{_≡_, refl}
 use mathlib.Core.List.{List, [], _∷_}
 use mathlib.Core.Option.{none}
-use Prim.Native.Nat.{ℕ, _+_, _*_, _≤_}
+use Prim.Native.Nat.{ℕ, zero, suc, _+_, _*_, _≤_}
 use native.Mathlib.Nat.{mul-le-mul-right}
 use native.Mathlib.Omega.{arith}
-use lib.ListN.{length, drop, getD, length-drop}
+use lib.ListN.{length, take, drop, getD, length-drop}
 use Rattle.rows.specs.declared.Table.{Table}
 use Rattle.rows.specs.declared.Table.the-variants.{Context, Mapping, Access, View}
 use Rattle.big_endian.specs.BigEndian.{size}
 use Rattle.rows.specs.Fields.{Field, sequence, integer, fault, taken, faults}
-use Rattle.rows.specs.Rows.{rowFields, limit}
+use Rattle.rows.specs.Rows.{keyFields, rowFields, limit, rowMax, keyMax}
 use Rattle.rows.proofs.Sound.{within-most, sequence-range, field-room, faults-first, faults-rest, faults-end}
 
 abbrev pub longestField : Field → ℕ
@@ -44,12 +44,37 @@ longestRow Mapping = 72
 longestRow Access = 173
 longestRow View = 310
 
+pub longest-most : (t : Table) → longestRow t ≤ rowMax
+longest-most Context = omega arith
+longest-most Mapping = omega arith
+longest-most Access = omega arith
+longest-most View = omega arith
+
 pub row-bounded : (t : Table) (v : List ℕ) → faults (rowFields t) v ≡ none → length v ≤ longestRow t
 unfolding rowFields
 row-bounded Context v h = bounded (rowFields Context) v h
 row-bounded Mapping v h = bounded (rowFields Mapping) v h
 row-bounded Access v h = bounded (rowFields Access) v h
 row-bounded View v h = bounded (rowFields View) v h
+
+pub row-longest : (t : Table) → longest (rowFields t) ≤ rowMax
+unfolding rowFields
+row-longest Context = omega arith
+row-longest Mapping = omega arith
+row-longest Access = omega arith
+row-longest View = omega arith
+
+pub key-longest : (t : Table) → longest (keyFields t) ≤ keyMax
+unfolding keyFields
+key-longest Context = omega arith
+key-longest Mapping = omega arith
+key-longest Access = omega arith
+key-longest View = omega arith
+
+pub longest-take : (n : ℕ) (ks : List Field) → longest (take n ks) ≤ longest ks
+longest-take zero ks = omega arith
+longest-take (suc n) [] = omega arith
+longest-take (suc n) (k ∷ ks) = omega (arith, longest-take n ks)
 
 pub largest-image : 8 + 2 * (limit Context + limit Mapping + limit Access + limit View)
     + limit Context * longestRow Context + limit Mapping * longestRow Mapping + limit Access * longestRow Access + limit View * longestRow View ≡ 46456

@@ -4,19 +4,20 @@
 -- (`read`), so also for the first fields of a row alone (`bytes-front`, `legals-front`). Assumes nothing.
 use mathlib.Core.Path.{_≡_, refl, sym, ap, _∙_}
 use mathlib.Core.Bool.{true}
-use mathlib.Core.List.{List, [], _∷_, _++_, append-assoc, append-nil}
+use mathlib.Core.List.{List, [], _∷_, _++_, append-nil}
 use mathlib.Core.Option.{none}
-use Prim.Native.Nat.{ℕ, zero, suc, _+_, _*_, _/_, _%_, _≤_, _<_}
-use native.Mathlib.Nat.{zero-mul, suc-mul}
+use Prim.Native.Nat.{ℕ, suc, _+_, _*_, _≤_}
 use native.Mathlib.Omega.{arith}
 use lib.ListN.{length, take, drop, getD, length-append, length-drop}
-use lib.Seq.{getD-drop, take-all, take-add, drop-at}
+use lib.Seq.{take-all, take-add, drop-at}
 use lib.Dec.{ltb}
 use borrow.Author.Tests.{le-leb, lt-ltb, ltb-true}
 use Rattle.lists.proofs.Bools.{clash, and-left, and-right, and-both}
-use Rattle.big_endian.specs.BigEndian.{Width, octet, quad, size, bound, number, bytes, numbers, bytesOf, fit, Octets}
-use Rattle.big_endian.proofs.BigEndian.{length-bytes, number-bytes, length-bytesOf, numbers-bytesOf, octets-drop, number-bound, bytes-number, length-numbers, bytesOf-numbers, fit-numbers}
-use Rattle.rows.specs.Fields.{Field, sequence, integer, within, sequenceFault, integerFault, fault, taken, value, faults, values, span, fieldBytes, rowBytes, legal, legals}
+use Rattle.big_endian.specs.BigEndian.{size, bound, number, bytes, numbers, bytesOf, fit, Octets}
+use Rattle.big_endian.proofs.BigEndian.{length-bytes, number-bytes, length-bytesOf, numbers-bytesOf, octets-drop, number-bound, bytes-number, length-numbers}
+use Rattle.big_endian.proofs.BigEndian.{bytesOf-numbers, fit-numbers}
+use Rattle.rows.specs.Fields.{Field, sequence, integer, within, sequenceFault, integerFault, fault, taken, value, faults, values, span, fieldBytes}
+use Rattle.rows.specs.Fields.{rowBytes, legal, legals}
 use Rattle.rows.proofs.Sound.{sequence-range, sequence-room, integer-range, integer-room, faults-first, faults-rest, faults-end}
 use Rattle.rows.proofs.Appends.{span-room, faults-append}
 

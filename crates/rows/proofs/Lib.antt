@@ -1,10 +1,10 @@
 pub mod Steps
 pub mod Sound
 pub mod Appends
-pub mod Judging
-pub mod Legal
+pub mod Walks
 pub mod Places
 pub mod Inverse
 pub mod Typed
-pub mod Ordering
+pub mod Order
 pub mod Bounds
+pub mod Forms

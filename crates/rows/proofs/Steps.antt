@@ -1,23 +1,24 @@
 -- Laws of one field judged where it lies: which answer each test that the code makes leads to.
 -- Each rewrites the definition by what the tests showed, with the bytes that are left counted by the row's length and the place.
 -- Assumes nothing.
-use mathlib.Core.Path.{_≡_, sym, ap, _∙_}
-use mathlib.Core.Bool.{true, false}
+use mathlib.Core.Path.{_≡_, refl, sym, _∙_}
+use mathlib.Core.Bool.{Bool, true, false, cond}
 use mathlib.Core.List.{List, []}
+use mathlib.Core.Option.{none, some}
 use Prim.Native.Nat.{ℕ, _+_, _-_, _*_, _≤_, _<_}
-use native.Mathlib.Nat.{add-zero}
+use native.Mathlib.Nat.{mul-zero}
 use native.Mathlib.Omega.{arith}
 use lib.ListN.{length, drop, getD, length-drop}
-use lib.Seq.{getD-drop}
 use lib.Dec.{leb}
 use borrow.Author.Tests.{le-leb, lt-leb, lt-ltb, le-ltb, eq-eqb, ne-eqb}
 use Rattle.answers.specs.declared.Fault.the-variants.{Torn, OutOfRange}
 use Rattle.lists.proofs.Bools.{and-both, and-false-left, and-false-right}
 use Rattle.big_endian.proofs.BigEndian.{getD-front}
+use Rattle.rows.specs.declared.Step.{Step}
 use Rattle.rows.specs.declared.Step.the-variants.{At, Bad}
-use Rattle.big_endian.specs.BigEndian.{Width, size, number, quad}
+use Rattle.big_endian.specs.BigEndian.{Width, octet, size, number}
 use Rattle.rows.specs.Fields.{within, sequenceFault, integerFault, faults}
-use Rattle.rows.specs.Judging.{reached, sequenceStep, integerStep}
+use Rattle.rows.specs.Steps.{reached, sequenceStep, integerStep}
 
 -- a range
 module _ (lo hi n : ℕ) where
@@ -73,3 +74,16 @@ module _ (row : List ℕ) (at : ℕ) where
   pub ended : (key : ℕ) → length row ≤ at → At key ≡ reached (faults [] (drop at row)) key
   unfolding faults
   ended key h = rw (length-drop at row, eq-eqb (length row - at) 0 (omega arith))
+
+-- a number of one byte is a count of parts that take none
+once : (b w : Bool) (n : ℕ) → reached (cond b (cond w (cond b none (some Torn)) (some OutOfRange)) (some Torn)) n
+    ≡ reached (cond b (cond w none (some OutOfRange)) (some Torn)) n
+once true true n = refl
+once true false n = refl
+once false w n = refl
+
+pub octet-step : {s : Step} (lo hi : ℕ) (row : List ℕ) (at : ℕ) → s ≡ sequenceStep 0 lo hi row at → s ≡ integerStep octet lo hi row at
+unfolding sequenceFault integerFault
+octet-step lo hi row at e =
+    let v = drop at row in
+    e ∙ rw (mul-zero (getD v 0 0)) (once (leb 1 (length v)) (within lo hi (getD v 0 0)) (at + 1))

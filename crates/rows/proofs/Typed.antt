@@ -7,7 +7,8 @@ use mathlib.Core.List.{List}
 use Prim.Native.Nat.{ℕ}
 use Rattle.rows.specs.declared.Table.the-variants.{Context, Mapping, Access, View}
 use Rattle.rows.specs.Fields.{values, rowBytes, legals}
-use Rattle.rows.specs.Rows.{ContextRow, MappingRow, AccessRow, ViewRow, rowFields, contextFields, contextFrom, contextOf, mappingFields, mappingFrom, mappingOf, accessFields, accessFrom, accessOf, viewFields, viewFrom, viewOf}
+use Rattle.rows.specs.Rows.{rowFields, ContextRow, contextFields, contextFrom, contextOf, MappingRow, mappingFields, mappingFrom, mappingOf, AccessRow}
+use Rattle.rows.specs.Rows.{accessFields, accessFrom, accessOf, ViewRow, viewFields, viewFrom, viewOf}
 use Rattle.rows.proofs.Inverse.{values-made}
 
 -- a row made and read

@@ -1,5 +1,5 @@
 pub mod Fields
 pub mod Rows
 pub mod Forms
-pub mod Judging
+pub mod Steps
 pub mod Tables

@@ -1,12 +1,31 @@
 -- The four rows of RFC 3415, section 4, with the ranges of document 01, "Rows and their fields". Assumes nothing.
-use mathlib.Core.Bool.{Bool}
 use mathlib.Core.List.{List, [], _∷_, _++_}
 use Prim.Native.Nat.{ℕ}
 use lib.ListN.{getD}
 use Rattle.rows.specs.declared.Table.{Table}
 use Rattle.rows.specs.declared.Table.the-variants.{Context, Mapping, Access, View}
-use Rattle.rows.specs.Fields.{Field, sequence, integer, values, rowBytes, legals, index}
+use Rattle.rows.specs.Fields.{Field, sequence, integer, values, index}
 use Rattle.big_endian.specs.BigEndian.{octet, quad}
+
+-- ---- fields of several tables
+
+-- the largest security model
+abbrev pub modelMax : ℕ
+modelMax = 2147483647
+
+-- a name, and one that may be empty
+abbrev pub someName : Field
+someName = sequence octet 1 32
+
+abbrev pub anyName : Field
+anyName = sequence octet 0 32
+
+-- 2 volatile to 5 readOnly; 1 active, 2 notInService
+abbrev pub storage : Field
+storage = integer octet 2 5
+
+abbrev pub activity : Field
+activity = integer octet 1 2
 
 -- ---- vacmContextTable: a context name
 
@@ -14,7 +33,7 @@ pub record ContextRow : Type 0 where
   pub contextName : List ℕ
 
 abbrev pub contextKey : List Field
-contextKey = sequence octet 0 32 ∷ []
+contextKey = anyName ∷ []
 
 abbrev pub contextRest : List Field
 contextRest = []
@@ -29,10 +48,10 @@ pub record MappingRow : Type 0 where
   pub status : ℕ
 
 abbrev pub mappingKey : List Field
-mappingKey = integer quad 1 2147483647 ∷ sequence octet 1 32 ∷ []
+mappingKey = integer quad 1 modelMax ∷ someName ∷ []
 
 abbrev pub mappingRest : List Field
-mappingRest = sequence octet 1 32 ∷ integer octet 2 5 ∷ integer octet 1 2 ∷ []
+mappingRest = someName ∷ storage ∷ activity ∷ []
 
 -- ---- vacmAccessTable: group, prefix, model, level, then match, three view names, storage, status
 
@@ -49,17 +68,10 @@ pub record AccessRow : Type 0 where
   pub status : ℕ
 
 abbrev pub accessKey : List Field
-accessKey = sequence octet 1 32 ∷ sequence octet 0 32 ∷ integer quad 0 2147483647 ∷ integer octet 1 3 ∷ []
+accessKey = someName ∷ anyName ∷ integer quad 0 modelMax ∷ integer octet 1 3 ∷ []
 
 abbrev pub accessRest : List Field
-accessRest =
-    integer octet 1 2
-    ∷ sequence octet 0 32
-    ∷ sequence octet 0 32
-    ∷ sequence octet 0 32
-    ∷ integer octet 2 5
-    ∷ integer octet 1 2
-    ∷ []
+accessRest = integer octet 1 2 ∷ anyName ∷ anyName ∷ anyName ∷ storage ∷ activity ∷ []
 
 -- ---- vacmViewTreeFamilyTable ("view"): view name and subtree, then mask, type, storage, status
 
@@ -72,10 +84,10 @@ pub record ViewRow : Type 0 where
   pub status : ℕ
 
 abbrev pub viewKey : List Field
-viewKey = sequence octet 1 32 ∷ sequence quad 1 64 ∷ []
+viewKey = someName ∷ sequence quad 1 64 ∷ []
 
 abbrev pub viewRest : List Field
-viewRest = sequence octet 0 16 ∷ integer octet 1 2 ∷ integer octet 2 5 ∷ integer octet 1 2 ∷ []
+viewRest = sequence octet 0 16 ∷ integer octet 1 2 ∷ storage ∷ activity ∷ []
 
 -- ---- the tables' keys, whole rows and limits, by table
 
@@ -98,11 +110,23 @@ rowFields Mapping = mappingKey ++ mappingRest
 rowFields Access = accessKey ++ accessRest
 rowFields View = viewKey ++ viewRest
 
+-- the index of the row or the key that bytes hold: its key fields as sub-identifiers
+unfoldable pub indexOf : Table → List ℕ → List ℕ
+indexOf t v = index (keyFields t) (values (keyFields t) v)
+
+-- the most rows of a table
 abbrev pub limit : Table → ℕ
 limit Context = 16
 limit Mapping = 64
 limit Access = 64
 limit View = 96
+
+-- the most bytes of a row, and of a key
+abbrev pub rowMax : ℕ
+rowMax = 310
+
+abbrev pub keyMax : ℕ
+keyMax = 290
 
 -- ---- rows as lists of fields, and back
 

@@ -1,5 +1,5 @@
 -- The four tables. Assumes nothing.
-use mathlib.Core.List.{List, [], _∷_}
+use mathlib.Core.List.{List, []}
 use Rattle.rows.specs.Rows
 
 -- RFC 3415's names

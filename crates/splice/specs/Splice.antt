@@ -13,7 +13,3 @@ abbrev pub splicedTwo : List ℕ → ℕ → ℕ → List ℕ → ℕ → ℕ �
 splicedTwo w place had head at gone end new =
     take place w ++ (head ++ (take (at - (place + had)) (drop (place + had) w) ++ (new
     ++ (take (end - (at + gone)) (drop (at + gone) w) ++ drop (end - gone - had + length head + length new) w))))
-
--- w in which the elements from `from` up to `end` stand from `to` on; the rest stays
-abbrev pub moved : List ℕ → ℕ → ℕ → ℕ → List ℕ
-moved w from end to = take to w ++ (take (end - from) (drop from w) ++ drop (to + (end - from)) w)

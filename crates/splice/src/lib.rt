@@ -2,8 +2,12 @@
 ghost use mathlib.Core.Path.{_≡_};
 ghost use Prim.Native.Nat.{_+_, _-_, _≤_};
 ghost use lib.ListN.{length};
+ghost use Rattle.splice.specs.Splice.{spliced, splicedTwo};
 ghost use lib.Seq.{paste};
-ghost use Rattle.splice.specs.Splice.{spliced, splicedTwo, moved};
+ghost use Rattle.splice.specs.Moves.{moved, block};
+
+// How many octets are moved at once.
+const BLOCK: usize = 64;
 
 // Copies `new` into w from `at` on.
 pub fn copy_in(w: &mut [u8], at: usize, new: &[u8])
@@ -19,13 +23,13 @@ pub fn copy_in(w: &mut [u8], at: usize, new: &[u8])
     }
 }
 
-// Moves the 64 octets at `from` to `to`. All are read before one is stored, so that they become wide loads and stores.
+// Moves the block at `from` to `to`. All are read before one is stored, so that they become wide loads and stores.
 fn move_block(w: &mut [u8], from: usize, to: usize)
-    requires { ⌜ (from + 64 ≤ length (now w)) × (to + 64 ≤ length (now w)) ⌝ }
-    ensures { λ _. ⌜ now (w .exit) ≡ moved (now (w .entry)) from (from + 64) to ⌝ }
+    requires { ⌜ (from + block ≤ length (now w)) × (to + block ≤ length (now w)) ⌝ }
+    ensures { λ _. ⌜ now (w .exit) ≡ moved (now (w .entry)) from (from + block) to ⌝ }
 {
-    let mut block = [0u8; 64];
-    let stop = from + 64;
+    let mut block = [0u8; BLOCK];
+    let stop = from + BLOCK;
     copy_in(&mut block, 0, &w[from..stop]);
     copy_in(w, to, &block);
 }
@@ -36,8 +40,8 @@ fn move_blocks_up(w: &mut [u8], from: usize, end: usize, by: usize) -> usize
     ensures { λ r. ⌜ (from ≤ r) × (r ≤ end) × (now (w .exit) ≡ moved (now (w .entry)) r end (r + by)) ⌝ }
 {
     let mut j = end;
-    while 64 <= j - from {
-        j -= 64;
+    while BLOCK <= j - from {
+        j -= BLOCK;
         move_block(w, j, j + by);
     }
     j
@@ -61,9 +65,9 @@ fn move_blocks_down(w: &mut [u8], from: usize, end: usize, by: usize) -> usize
     ensures { λ r. ⌜ (from ≤ r) × (r ≤ end) × (now (w .exit) ≡ moved (now (w .entry)) from r (from - by)) ⌝ }
 {
     let mut j = from;
-    while 64 <= end - j {
+    while BLOCK <= end - j {
         move_block(w, j, j - by);
-        j += 64;
+        j += BLOCK;
     }
     j
 }
@@ -81,7 +85,7 @@ fn move_down(w: &mut [u8], from: usize, end: usize, by: usize)
 }
 
 // Moves the octets from `from` up to `end` so that they stand from `to` on.
-fn shift(w: &mut [u8], from: usize, end: usize, to: usize)
+pub fn shift(w: &mut [u8], from: usize, end: usize, to: usize)
     requires { ⌜ (from ≤ end) × (end ≤ length (now w)) × (to + (end - from) ≤ length (now w)) ⌝ }
     ensures { λ _. ⌜ now (w .exit) ≡ moved (now (w .entry)) from end to ⌝ }
 {
@@ -93,7 +97,7 @@ fn shift(w: &mut [u8], from: usize, end: usize, to: usize)
 }
 
 // The `gone` octets at `at` give way to `new`, and what stands behind them up to `end` follows.
-pub fn splice(w: &mut [u8], at: usize, gone: usize, end: usize, new: &[u8])
+fn splice(w: &mut [u8], at: usize, gone: usize, end: usize, new: &[u8])
     requires { ⌜ (at + gone ≤ end) × (end ≤ length (now w)) × (end - gone + length (now new) ≤ length (now w)) ⌝ }
     ensures { λ _. ⌜ now (w .exit) ≡ spliced (now (w .entry)) at gone end (now (new .entry)) ⌝ }
 {
@@ -113,7 +117,8 @@ pub fn splice_two(
     end: usize,
     new: &[u8],
 )
-    requires { ⌜ (place + had ≤ at) × (at + gone ≤ end) × (end ≤ length (now w)) × (end - gone - had + length (now head) + length (now new) ≤ length (now w)) ⌝ }
+    requires { ⌜ (place + had ≤ at) × (at + gone ≤ end) × (end ≤ length (now w))
+        × (end - gone - had + length (now head) + length (now new) ≤ length (now w)) ⌝ }
     ensures { λ _. ⌜ now (w .exit) ≡ splicedTwo (now (w .entry)) place had (now (head .entry)) at gone end (now (new .entry)) ⌝ }
 {
     let to = at - had + head.len();

@@ -7,7 +7,7 @@ use lib.ListN.{length}
 use Rattle.lists.proofs.Bools.{split as by, cond-false}
 use Rattle.rows.specs.Tables.{Tables}
 use Rattle.image.specs.Store.{room, isSound, held}
-use Rattle.exchange.proofs.Stores.{store-sound}
+use Rattle.table_update.proofs.Stores.{store-sound}
 
 pub held-size : (w : List ℕ) {t : Tables} → held w ≡ some t → room ≡ length w
 unfolding held

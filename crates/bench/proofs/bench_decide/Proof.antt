@@ -14,4 +14,5 @@ returns : tie.Need-returns
 returns c = c .answer-number .ensures ∙ ap answerNumber (c .before .is-access-allowed .ensures)
 
 pub bench-decide-spec : {M : Type 1} → statement M
-bench-decide-spec = tie.close (tie.spec (λ c κs. search needs) (λ c κs. search needs) returns)
+bench-decide-spec =
+    tie.close (tie.spec (λ c κs. search needs) (λ c κs. search needs) returns)

@@ -23,9 +23,4 @@ returns c =
 pub bench-owner-remove-spec : {M : Type 1} → statement M
 bench-owner-remove-spec =
     tie.close
-    (tie.spec
-    (λ c κs. search needs)
-    (λ c κs. search needs)
-    (λ c κs. search needs)
-    (λ c. search needs)
-    returns)
+    (tie.spec (λ c κs. search needs) (λ c κs. search needs) (λ c κs. search needs) (λ c. search needs) returns)

@@ -17,11 +17,5 @@ returns-2 c = rw (c .before .before .w2 .given .1, c .fault-number .ensures)
 pub length-number-spec : {M : Type 1} → statement M
 length-number-spec =
     tie.close
-    (tie.spec
-    (λ c. search needs)
-    (λ c. search needs)
-    (λ c κs. search needs)
-    (λ c. search needs)
-    (λ c. search needs)
-    returns
+    (tie.spec (λ c. search needs) (λ c. search needs) (λ c κs. search needs) (λ c. search needs) (λ c. search needs) returns
     returns-2)

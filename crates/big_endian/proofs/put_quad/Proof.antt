@@ -1,4 +1,4 @@
--- `big_endian::put_quad` meets its contract: the four stores lay the number's four bytes, one behind the other (`Laying`).
+-- `big_endian::put_quad` meets its contract: the four stores lay the number's four bytes, one behind the other (`Laid` of lists).
 -- Each byte is below 256. Assumes nothing.
 use native.Mathlib.Omega.{arith}
 use native.Mathlib.Numerals.{add-one, add-two, add-three}
@@ -26,17 +26,6 @@ returns c =
 pub put-quad-spec : {M : Type 1} → statement M
 put-quad-spec =
     tie.close
-    (tie.spec
-    (λ c. search needs)
-    (λ c. search needs)
-    (λ c. search needs)
-    (λ c. search needs)
-    slice-write-out-2
-    (λ c. search needs)
-    (λ c. search needs)
-    slice-write-out-3
-    (λ c. search needs)
-    (λ c. search needs)
-    slice-write-out-4
-    (λ c. search needs)
-    returns)
+    (tie.spec (λ c. search needs) (λ c. search needs) (λ c. search needs) (λ c. search needs) slice-write-out-2
+    (λ c. search needs) (λ c. search needs) slice-write-out-3 (λ c. search needs) (λ c. search needs) slice-write-out-4
+    (λ c. search needs) returns)

@@ -1,6 +1,5 @@
--- `big_endian::put_quads` meets its contract. The loop's invariant: the out is filled with the bytes of the parts passed (`Laying`), and `o` is
--- four times their count.
--- The measure is how many parts are left. Assumes nothing.
+-- `big_endian::put_quads` meets its contract. The loop's invariant: `out` is filled with the bytes of the parts passed (`Filled` of lists),
+-- and `o` is four times their count. The measure is how many parts are left. Assumes nothing.
 use mathlib.Core.Path.{_≡_, ap, _∙_}
 use Prim.Native.Nat.{_-_, _*_, _≤_, _<_}
 use native.Mathlib.Omega.{arith}
@@ -38,16 +37,5 @@ returns c =
 pub put-quads-spec : {M : Type 1} → statement M
 put-quads-spec =
     tie.close
-    (tie.spec
-    Inv-loop
-    μ-loop
-    (λ c. search needs)
-    (λ c. search needs)
-    (λ c. search needs)
-    (λ c κs. search needs)
-    (λ c. search needs)
-    (λ c. search needs)
-    (λ c. search needs)
-    loop-again
-    (λ c. search needs)
-    returns)
+    (tie.spec Inv-loop μ-loop (λ c. search needs) (λ c. search needs) (λ c. search needs) (λ c κs. search needs)
+    (λ c. search needs) (λ c. search needs) (λ c. search needs) loop-again (λ c. search needs) returns)

@@ -7,12 +7,12 @@ use native.Mathlib.Omega.{arith}
 use borrow.Author.Needs.{needs}
 use Rattle.rows.specs.declared.Table.the-variants.{Access}
 use Rattle.rows.specs.Rows.{AccessRow, mappingOf, accessOf}
-use Rattle.image.specs.Layout.{rowsIn}
-use Rattle.procedure.specs.Decision.{chosenAccess}
-use Rattle.procedure.specs.Bytes.{identifier}
-use Rattle.procedure.proofs.Layouts.{name-part}
-use Rattle.decision.specs.Found.{Chosen}
-use Rattle.decision.proofs.Answers.{RowAt, row-at, row-none, access-none, access-some}
+use Rattle.image_layout.specs.Layout.{rowsIn}
+use Rattle.decision_steps.specs.Decision.{chosenAccess}
+use Rattle.decision_steps.specs.Bytes.{identifier}
+use Rattle.decision_steps.proofs.Layouts.{name-part}
+use Rattle.decision_find.specs.Found.{Chosen}
+use Rattle.decision.proofs.Answers.{RowAt, row-at, row-none, access-step}
 use Rattle.decision.proofs.by_group.Statement.{statement}
 use Rattle.decision.proofs.by_group.Tie as tie
 
@@ -20,17 +20,19 @@ use Rattle.decision.proofs.by_group.Tie as tie
 abbrev choice : tie.Start → Option AccessRow
 choice s =
     let a = s .args in
-    chosenAccess (mappingOf (a .row .now) .groupName) (a .model) (a .level) (a .context .now) (map accessOf (rowsIn (a .w .now) (a .l .accesses)))
+    chosenAccess (mappingOf (a .row .now) .groupName) (a .security-model) (a .security-level) (a .context-name .now)
+    (map accessOf (rowsIn (a .w .now) (a .l .accesses)))
 
 -- where the call of `find_access` stands
 abbrev start : tie.After-find-access → tie.Start
-start f = f .before .before .before .before .before .before .before .before .before .before
+start f = f .before .before .before .before .before .before .before .before .before
 
 chosen : (f : tie.After-find-access) → Chosen Access accessOf (start f .args .w .now) (f .find-access .result) (choice (start f))
 chosen f =
     let u = f .before .before .before in
-    let v = u .before .before in
-    rw (name-part (start f .args .row .now) (v .group-at .result) (u .wide .result) (u .wide .ensures .0) ∙ v .group-at .ensures .1) at (f .find-access .ensures)
+    let v = u .before in
+    let e = name-part (start f .args .row .now) (v .group-at .result) (u .after .result) (u .after .ensures .0) in
+    rw (e ∙ v .group-at .ensures .1) at (f .find-access .ensures)
 
 row : (c : tie.After-known-told) → let s = start (c .before .before .before) in let g = c .before .found .given .0 in
     RowAt Access accessOf (s .args .w .now) (g .0) (g .1 .0) (choice s)
@@ -40,7 +42,7 @@ returns : tie.Need-returns
 returns c =
     let f = c .before .before in
     let a = start f .args in
-    access-none (a .w .now) (a .l) (a .model) [] (a .level) (a .view-type) (a .context .now) (identifier (a .variable .now)) (mappingOf (a .row .now))
+    access-step (a .w .now) (a .l) (a .security-model) [] (a .security-level) (a .view-type) (a .context-name .now) (identifier (a .variable .now)) _
     (row-none (chosen f) (c .enum-told .given .1))
 
 sub-by-access : tie.Need-sub-by-access
@@ -62,26 +64,12 @@ returns-2 c =
     let k = c .before .before .before in
     let a = start (k .before .before .before) .args in
     c .by-access .ensures
-    ∙ access-some (a .w .now) (a .l) (a .model) [] (a .level) (a .view-type) (a .context .now) (identifier (a .variable .now)) (mappingOf (a .row .now)) (row k .is)
+    ∙ access-step (a .w .now) (a .l) (a .security-model) [] (a .security-level) (a .view-type) (a .context-name .now) (identifier (a .variable .now)) _
+    (row k .is)
 
 pub by-group-spec : {M : Type 1} → statement M
 by-group-spec =
     tie.close
-    (tie.spec
-    (λ c κs. search needs)
-    (λ c. search needs)
-    (λ c. search needs)
-    (λ c κs. search needs)
-    (λ c. search needs)
-    (λ c. search needs)
-    (λ c. search needs)
-    (λ c. search needs)
-    (λ c κs. search needs)
-    (λ c. search needs)
-    (λ c. search needs)
-    returns
-    sub-by-access
-    part-by-access-start
-    part-by-access-end
-    by-access-requires
-    returns-2)
+    (tie.spec (λ c κs. search needs) (λ c. search needs) (λ c κs. search needs) (λ c. search needs) (λ c. search needs)
+    (λ c. search needs) (λ c κs. search needs) (λ c. search needs) (λ c. search needs) returns sub-by-access part-by-access-start
+    part-by-access-end by-access-requires returns-2)

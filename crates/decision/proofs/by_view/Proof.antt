@@ -3,7 +3,6 @@
 use mathlib.Core.Path.{_≡_, sym, _∙_}
 use mathlib.Core.Bool.{true}
 use mathlib.Core.List.{List, map}
-use mathlib.Core.Option.{some}
 use Prim.Native.Nat.{ℕ}
 use native.Mathlib.Omega.{arith}
 use borrow.Author.Needs.{needs}
@@ -12,23 +11,23 @@ use Rattle.lists.specs.Lists.{keep, any}
 use Rattle.lists.proofs.Bools.{cond-true, cond-false}
 use Rattle.rows.specs.declared.Table.the-variants.{View}
 use Rattle.rows.specs.Rows.{ViewRow, viewOf}
-use Rattle.image.specs.Layout.{rowsIn}
-use Rattle.image.proofs.Walks.{piece}
-use Rattle.procedure.specs.Decision.{inView, chosenView, viewRows, step4, step5}
-use Rattle.procedure.specs.Bytes.{identifier}
-use Rattle.decision.proofs.Answers.{RowAt, row-at, row-none, view-unnamed, view-empty, view-unmatched, view-matched}
+use Rattle.image_layout.specs.Layout.{rowsIn}
+use Rattle.image_layout.proofs.Walks.{piece}
+use Rattle.decision_steps.specs.Decision.{inView, chosenView, byType, step4}
+use Rattle.decision_steps.specs.Bytes.{identifier}
+use Rattle.decision.proofs.Answers.{RowAt, row-at, row-none, view-unnamed, view-empty, view-step}
 use Rattle.decision.proofs.by_view.Statement.{statement}
 use Rattle.decision.proofs.by_view.Tie as tie
 
 -- the name, the variable and the rows
 abbrev name : tie.Start → List ℕ
-name s = s .args .name .now
+name s = s .args .view-name .now
 
 abbrev variable : tie.Start → List ℕ
 variable s = identifier (s .args .variable .now)
 
 abbrev rows : tie.Start → List ViewRow
-rows s = map viewOf (rowsIn (s .args .w .now) (s .args .x))
+rows s = map viewOf (rowsIn (s .args .w .now) (s .args .views))
 
 -- where the call of `find_view` stands
 abbrev start : tie.After-find-view → tie.Start
@@ -45,11 +44,11 @@ row c = row-at (c .before .before .before .before .before .find-view .ensures .1
 
 -- what it answers
 matched : (c : tie.After-known-told) → let s = start (c .before .before .before .before .before) in let g = c .before .row .given .0 in
-    step5 (some (viewOf (piece (s .args .w .now) (g .0) (g .1 .0)))) ≡ step4 (variable s) (viewRows (name s) (rows s))
+    byType (viewOf (piece (s .args .w .now) (g .0) (g .1 .0))) ≡ step4 (variable s) (name s) (rows s)
 matched c =
     let e = c .before .before .before in
     let f = e .before .before in
-    view-matched (variable (start f)) (name (start f)) (rows (start f)) (f .before .if1 .left) (some-rows e) (row c .is)
+    view-step (variable (start f)) (name (start f)) (rows (start f)) (f .before .if1 .left) (some-rows e) (row c .is)
 
 returns : tie.Need-returns
 returns c = let s = c .before .before .before .before in view-unnamed (variable s) (name s) (rows s) (c .if1 .taken)
@@ -57,13 +56,15 @@ returns c = let s = c .before .before .before .before in view-unnamed (variable 
 returns-2 : tie.Need-returns-2
 returns-2 c =
     let f = c .before .before in
-    view-empty (variable (start f)) (name (start f)) (rows (start f)) (f .before .if1 .left) (sym (f .find-view .ensures .0) ∙ not-true (f .find-view .result .any) (c .if2 .taken))
+    view-empty (variable (start f)) (name (start f)) (rows (start f)) (f .before .if1 .left)
+    (sym (f .find-view .ensures .0) ∙ not-true (f .find-view .result .any) (c .if2 .taken))
 
 returns-3 : tie.Need-returns-3
 returns-3 c =
     let e = c .before .before in
     let f = e .before .before in
-    view-unmatched (variable (start f)) (name (start f)) (rows (start f)) (f .before .if1 .left) (some-rows e) (row-none (f .find-view .ensures .1) (c .enum-told .given .1))
+    view-step (variable (start f)) (name (start f)) (rows (start f)) (f .before .if1 .left) (some-rows e)
+    (row-none (f .find-view .ensures .1) (c .enum-told .given .1))
 
 sub-includes : tie.Need-sub-includes
 sub-includes c = omega (arith, row c .starts)
@@ -86,16 +87,5 @@ returns-5 c = sym (cond-false _ _ (sym (c .before .includes .ensures) ∙ c .if3
 pub by-view-spec : {M : Type 1} → statement M
 by-view-spec =
     tie.close
-    (tie.spec
-    returns
-    (λ c κs. search needs)
-    returns-2
-    (λ c. search needs)
-    (λ c. search needs)
-    returns-3
-    sub-includes
-    part-includes-start
-    part-includes-end
-    includes-requires
-    returns-4
-    returns-5)
+    (tie.spec returns (λ c κs. search needs) returns-2 (λ c. search needs) (λ c. search needs) returns-3 sub-includes
+    part-includes-start part-includes-end includes-requires returns-4 returns-5)

@@ -10,4 +10,5 @@ returns-2 : tie.Need-returns-2
 returns-2 c = rw (c .enum-told .given .1)
 
 pub sound-rows-spec : {M : Type 1} → statement M
-sound-rows-spec = tie.close (tie.spec (λ c. search needs) (λ c. search needs) returns returns-2)
+sound-rows-spec =
+    tie.close (tie.spec (λ c. search needs) (λ c. search needs) returns returns-2)

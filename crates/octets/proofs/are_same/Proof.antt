@@ -7,7 +7,7 @@ use native.Mathlib.Omega.{arith}
 use lib.ListN.{length, take}
 use borrow.Author.Needs.{needs}
 use Rattle.lists.proofs.Orders.{same-eq, same-ne}
-use Rattle.octets.proofs.Orders.{take-next, take-whole}
+use Rattle.octets.proofs.Sames.{take-next, take-whole}
 use Rattle.octets.proofs.are_same.Statement.{statement}
 use Rattle.octets.proofs.are_same.Tie as tie
 
@@ -45,21 +45,6 @@ returns-5 c =
 pub are-same-spec : {M : Type 1} → statement M
 are-same-spec =
     tie.close
-    (tie.spec
-    Inv-loop
-    μ-loop
-    returns
-    returns-2
-    (λ c. search needs)
-    (λ c. search needs)
-    (λ c. search needs)
-    returns-3
-    skip-requires
-    (λ c. search needs)
-    (λ c. search needs)
-    (λ c. search needs)
-    returns-4
-    (λ c. search needs)
-    (λ c. search needs)
-    loop-again
-    returns-5)
+    (tie.spec Inv-loop μ-loop returns returns-2 (λ c. search needs) (λ c. search needs) (λ c. search needs) returns-3
+    skip-requires (λ c. search needs) (λ c. search needs) (λ c. search needs) returns-4 (λ c. search needs) (λ c. search needs)
+    loop-again returns-5)

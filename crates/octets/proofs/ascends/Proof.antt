@@ -7,7 +7,8 @@ use Prim.Native.Nat.{_≤_, _-_}
 use native.Mathlib.Omega.{arith}
 use lib.ListN.{take}
 use borrow.Author.Needs.{needs}
-use Rattle.octets.proofs.Orders.{take-next, take-four, before-differ, before-four, before-ends}
+use Rattle.octets.proofs.Sames.{take-next, take-four}
+use Rattle.octets.proofs.Orders.{before-differ, before-four, before-ends}
 use Rattle.octets.proofs.ascends.Statement.{statement}
 use Rattle.octets.proofs.ascends.Tie as tie
 
@@ -28,8 +29,8 @@ returns c =
     let x = y .before in
     let f = x .before .before in
     let k = f .before .before .before in
-    let e = x .four-at .ensures in
-    let g = y .four-at2 .ensures in
+    let e = x .quad-at .ensures .0 in
+    let g = y .quad-at2 .ensures .0 in
     rw (e, g)
     (sym
     (before-four _ _ (f .skip .result) (f .skip .ensures .1) (omega arith) (omega arith)
@@ -45,10 +46,9 @@ loop-holds c =
     (λ u.
     rw (u .4) (
       omega arith,
-      take-four _ _ (f .skip .result) (f .skip .ensures .1) (omega arith) (omega arith)
-          (λ i. omega (arith, k .before .shared-slice-known .given i))
-          (λ i. omega (arith, k .shared-slice-known2 .given i))
-          (sym (u .1 .ensures) ∙ u .3 .left ∙ u .2 .ensures),
+      take-four _ _ (λ i. omega (arith, k .before .shared-slice-known .given i)) (λ i. omega (arith, k .shared-slice-known2 .given i))
+          (f .skip .result) (omega arith) (omega arith) (f .skip .ensures .1)
+          (sym (u .1 .ensures .0) ∙ u .3 .left ∙ u .2 .ensures .0),
     ))
     (λ u. rw (u .1) (f .skip .ensures))
     (c .if1 .came)
@@ -71,22 +71,6 @@ returns-3 c =
 pub ascends-spec : {M : Type 1} → statement M
 ascends-spec =
     tie.close
-    (tie.spec
-    Inv-loop
-    μ-loop
-    (λ c κs. search needs)
-    (λ c κs. search needs)
-    skip-requires
-    (λ c. search needs)
-    (λ c κs. search needs)
-    (λ c κs. search needs)
-    returns
-    (λ c. search needs)
-    loop-holds
-    (λ c. search needs)
-    (λ c. search needs)
-    returns-2
-    (λ c. search needs)
-    (λ c. search needs)
-    loop-again
-    returns-3)
+    (tie.spec Inv-loop μ-loop (λ c κs. search needs) (λ c κs. search needs) skip-requires (λ c. search needs)
+    (λ c κs. search needs) (λ c κs. search needs) returns (λ c. search needs) loop-holds (λ c. search needs) (λ c. search needs)
+    returns-2 (λ c. search needs) (λ c. search needs) loop-again returns-3)

@@ -6,7 +6,8 @@ use Prim.Native.Nat.{_≤_, _-_}
 use native.Mathlib.Omega.{arith}
 use lib.ListN.{length, take}
 use borrow.Author.Needs.{needs}
-use Rattle.octets.proofs.Orders.{take-next, order-lt, order-gt, order-shorter, order-longer, order-end}
+use Rattle.octets.proofs.Sames.{take-next}
+use Rattle.octets.proofs.Orders.{order-lt, order-gt, order-shorter, order-longer, order-end}
 use Rattle.octets.proofs.compare.Statement.{statement}
 use Rattle.octets.proofs.compare.Tie as tie
 
@@ -52,19 +53,5 @@ returns-5 c =
 pub compare-spec : {M : Type 1} → statement M
 compare-spec =
     tie.close
-    (tie.spec
-    Inv-loop
-    μ-loop
-    (λ c κs. search needs)
-    skip-requires
-    (λ c. search needs)
-    returns
-    (λ c. search needs)
-    (λ c. search needs)
-    returns-2
-    returns-3
-    (λ c. search needs)
-    (λ c. search needs)
-    loop-again
-    returns-4
-    returns-5)
+    (tie.spec Inv-loop μ-loop (λ c κs. search needs) skip-requires (λ c. search needs) returns (λ c. search needs)
+    (λ c. search needs) returns-2 returns-3 (λ c. search needs) (λ c. search needs) loop-again returns-4 returns-5)

@@ -7,7 +7,7 @@ use native.Mathlib.Omega.{arith}
 use lib.ListN.{take}
 use borrow.Author.Needs.{needs}
 use borrow.Author.Tests.{not-false}
-use Rattle.octets.proofs.Orders.{take-eight}
+use Rattle.octets.proofs.Sames.{take-eight}
 use Rattle.octets.proofs.skip.Statement.{statement}
 use Rattle.octets.proofs.skip.Tie as tie
 
@@ -20,9 +20,16 @@ abbrev μ-loop : tie.MeasureT-loop
 loop-again : tie.Need-loop-again Inv-loop μ-loop
 loop-again c =
     let t = c .before in
-    let l = t .before .before .loop in
-    (omega arith, take-eight _ _ (l .i) (omega arith) (omega arith) (l .inv .1) (sym (t .same-eight .ensures) ∙ not-false _ (c .if1 .left)))
+    let l = t .before .before in
+    let k = l .before in
+    let e = sym (t .same-eight .ensures) ∙ not-false _ (c .if1 .left) in (
+      omega arith,
+      take-eight _ _ (λ i. omega (arith, k .before .shared-slice-known .given i)) (λ i. omega (arith, k .shared-slice-known2 .given i))
+          (l .loop .i) (omega arith) (omega arith) (l .loop .inv .1) e,
+    )
 
 pub skip-spec : {M : Type 1} → statement M
 skip-spec =
-    tie.close (tie.spec Inv-loop μ-loop (λ c. search needs) (λ c. search needs) (λ c κs. search needs) (λ c. search needs) (λ c. search needs) (λ c. search needs) loop-again (λ c. search needs))
+    tie.close
+    (tie.spec Inv-loop μ-loop (λ c. search needs) (λ c. search needs) (λ c κs. search needs) (λ c. search needs)
+    (λ c. search needs) (λ c. search needs) loop-again (λ c. search needs))

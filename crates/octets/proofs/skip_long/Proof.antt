@@ -7,7 +7,7 @@ use native.Mathlib.Omega.{arith}
 use lib.ListN.{take}
 use borrow.Author.Needs.{needs}
 use borrow.Author.Tests.{not-false}
-use Rattle.octets.proofs.Orders.{take-four-eights}
+use Rattle.octets.proofs.Sames.{take-four-eights}
 use Rattle.octets.proofs.skip_long.Statement.{statement}
 use Rattle.octets.proofs.skip_long.Tie as tie
 
@@ -21,26 +21,18 @@ loop-again : tie.Need-loop-again Inv-loop μ-loop
 loop-again c =
     let e3 = c .before .before in
     let e1 = e3 .before .before in
-    let l = e1 .before .before .loop in
-    (omega arith, take-four-eights _ _ (l .i) (omega arith) (omega arith) (l .inv .1) (e1 .same-eight .ensures) (e3 .before .same-eight2 .ensures) (e3 .same-eight3 .ensures) (c .before .same-eight4 .ensures) (not-false _ (c .if1 .left)))
+    let l = e1 .before .before in
+    let k = l .before in (
+      omega arith,
+      take-four-eights _ _ (λ i. omega (arith, k .before .shared-slice-known .given i)) (λ i. omega (arith, k .shared-slice-known2 .given i))
+          (l .loop .i) (omega arith) (omega arith) (l .loop .inv .1)
+          (e1 .same-eight .ensures) (e3 .before .same-eight2 .ensures) (e3 .same-eight3 .ensures) (c .before .same-eight4 .ensures)
+          (not-false _ (c .if1 .left)),
+    )
 
 pub skip-long-spec : {M : Type 1} → statement M
 skip-long-spec =
     tie.close
-    (tie.spec
-    Inv-loop
-    μ-loop
-    (λ c. search needs)
-    (λ c. search needs)
-    (λ c κs. search needs)
-    (λ c. search needs)
-    (λ c κs. search needs)
-    (λ c. search needs)
-    (λ c κs. search needs)
-    (λ c. search needs)
-    (λ c κs. search needs)
-    (λ c. search needs)
-    (λ c. search needs)
-    (λ c. search needs)
-    loop-again
-    (λ c. search needs))
+    (tie.spec Inv-loop μ-loop (λ c. search needs) (λ c. search needs) (λ c κs. search needs) (λ c. search needs)
+    (λ c κs. search needs) (λ c. search needs) (λ c κs. search needs) (λ c. search needs) (λ c κs. search needs)
+    (λ c. search needs) (λ c. search needs) (λ c. search needs) loop-again (λ c. search needs))

@@ -9,4 +9,5 @@ returns : tie.Need-returns
 returns c = ap (λ (r : Read). r .part) (c .read-from .ensures)
 
 pub part-at-spec : {M : Type 1} → statement M
-part-at-spec = tie.close (tie.spec (λ c κs. search needs) returns)
+part-at-spec =
+    tie.close (tie.spec (λ c κs. search needs) returns)

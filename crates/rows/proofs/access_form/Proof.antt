@@ -28,7 +28,7 @@ access-form-spec =
     (tie.spec
     (λ c. search needs)
     (λ c. search needs)
-    (λ c. search needs)
+    (λ c. rw (c .match .keys3))
     (λ c. search needs)
     (λ c. search needs)
     (λ c. search needs)

@@ -40,15 +40,5 @@ returns-4 c = rw (c .before .enum-told4 .given .1) (c .view-form .ensures)
 pub form-at-spec : {M : Type 1} → statement M
 form-at-spec =
     tie.close
-    (tie.spec
-    (λ c. search needs)
-    (λ c. search needs)
-    mapping-form-requires
-    (λ c. search needs)
-    access-form-requires
-    (λ c. search needs)
-    view-form-requires
-    returns
-    returns-2
-    returns-3
-    returns-4)
+    (tie.spec (λ c. search needs) (λ c. search needs) mapping-form-requires (λ c. search needs) access-form-requires
+    (λ c. search needs) view-form-requires returns returns-2 returns-3 returns-4)

@@ -9,4 +9,5 @@ returns-5 : tie.Need-returns-5
 returns-5 c = let e : c .before .args .i ≡ 4 = omega arith in rw e
 
 pub mapping-form-spec : {M : Type 1} → statement M
-mapping-form-spec = tie.close (tie.spec (λ c. search needs) (λ c. search needs) (λ c. search needs) (λ c. search needs) returns-5)
+mapping-form-spec =
+    tie.close (tie.spec (λ c. rw (c .match .keys1)) (λ c. search needs) (λ c. search needs) (λ c. search needs) returns-5)

@@ -9,4 +9,6 @@ returns-6 : tie.Need-returns-6
 returns-6 c = let e : c .before .args .i ≡ 5 = omega arith in rw e
 
 pub view-form-spec : {M : Type 1} → statement M
-view-form-spec = tie.close (tie.spec (λ c. search needs) (λ c. search needs) (λ c. search needs) (λ c. search needs) (λ c. search needs) returns-6)
+view-form-spec =
+    tie.close
+    (tie.spec (λ c. search needs) (λ c. search needs) (λ c. search needs) (λ c. search needs) (λ c. search needs) returns-6)

@@ -6,8 +6,8 @@ use Prim.Native.Nat.{_+_, _-_, _≤_}
 use native.Mathlib.Omega.{arith}
 use lib.ListN.{length}
 use borrow.Author.Needs.{needs}
-use Rattle.splice.specs.Splice.{moved}
-use Rattle.splice.proofs.Laws.{moved-none, moved-back}
+use Rattle.splice.specs.Moves.{moved, block}
+use Rattle.splice.proofs.Moves.{moved-none, moved-back}
 use Rattle.splice.proofs.move_blocks_down.Statement.{statement}
 use Rattle.splice.proofs.move_blocks_down.Tie as tie
 
@@ -22,8 +22,13 @@ loop-holds c = (search needs, search needs, moved-none (c .before .args .w .now)
 
 loop-again : tie.Need-loop-again Inv-loop μ-loop
 loop-again c =
-    let l = c .before .before .before .before .before .loop in
-    (omega arith, omega arith, c .before .before .move-block .ensures ∙ moved-back _ _ _ (l .j) (l .j + 64) _ (l .inv .2) (omega arith) (omega arith) (omega arith) (omega arith), search needs)
+    let l = c .before .before .before .before .before .loop in (
+      omega arith,
+      omega arith,
+      c .before .before .move-block .ensures
+          ∙ moved-back _ _ _ (l .j) (l .j + block) _ (l .inv .2) (omega arith) (omega arith) (omega arith) (omega arith),
+      search needs,
+    )
 
 returns : tie.Need-returns Inv-loop μ-loop
 returns c = let l = c .before .loop in (l .inv .0, l .inv .1, l .inv .2)
@@ -31,15 +36,5 @@ returns c = let l = c .before .loop in (l .inv .0, l .inv .1, l .inv .2)
 pub move-blocks-down-spec : {M : Type 1} → statement M
 move-blocks-down-spec =
     tie.close
-    (tie.spec
-    Inv-loop
-    μ-loop
-    loop-holds
-    (λ c. search needs)
-    (λ c. search needs)
-    (λ c κs. search needs)
-    (λ c. search needs)
-    (λ c. search needs)
-    loop-again
-    (λ c. search needs)
-    returns)
+    (tie.spec Inv-loop μ-loop loop-holds (λ c. search needs) (λ c. search needs) (λ c κs. search needs) (λ c. search needs)
+    (λ c. search needs) loop-again (λ c. search needs) returns)

@@ -5,8 +5,8 @@ use Prim.Native.Nat.{_+_, _-_, _≤_}
 use native.Mathlib.Omega.{arith}
 use lib.ListN.{length}
 use borrow.Author.Needs.{needs}
-use Rattle.splice.specs.Splice.{moved}
-use Rattle.splice.proofs.Laws.{moved-none, moved-front}
+use Rattle.splice.specs.Moves.{moved, block}
+use Rattle.splice.proofs.Moves.{moved-none, moved-front}
 use Rattle.splice.proofs.move_blocks_up.Statement.{statement}
 use Rattle.splice.proofs.move_blocks_up.Tie as tie
 
@@ -21,8 +21,13 @@ loop-holds c = (search needs, search needs, moved-none (c .before .args .w .now)
 
 loop-again : tie.Need-loop-again Inv-loop μ-loop
 loop-again c =
-    let l = c .before .before .before .before .before .loop in
-    (omega arith, omega arith, c .before .before .move-block .ensures ∙ moved-front _ _ (l .j - 64) (l .j - 64 + 64) (l .j) _ _ (l .inv .2) (omega arith) (omega arith) (omega arith) (omega arith), search needs)
+    let l = c .before .before .before .before .before .loop in (
+      omega arith,
+      omega arith,
+      c .before .before .move-block .ensures
+          ∙ moved-front _ _ (l .j - block) (l .j - block + block) (l .j) _ _ (l .inv .2) (omega arith) (omega arith) (omega arith) (omega arith),
+      search needs,
+    )
 
 returns : tie.Need-returns Inv-loop μ-loop
 returns c = let l = c .before .loop in (l .inv .0, l .inv .1, l .inv .2)
@@ -30,15 +35,5 @@ returns c = let l = c .before .loop in (l .inv .0, l .inv .1, l .inv .2)
 pub move-blocks-up-spec : {M : Type 1} → statement M
 move-blocks-up-spec =
     tie.close
-    (tie.spec
-    Inv-loop
-    μ-loop
-    loop-holds
-    (λ c. search needs)
-    (λ c. search needs)
-    (λ c. search needs)
-    (λ c κs. search needs)
-    (λ c. search needs)
-    loop-again
-    (λ c. search needs)
-    returns)
+    (tie.spec Inv-loop μ-loop loop-holds (λ c. search needs) (λ c. search needs) (λ c. search needs) (λ c κs. search needs)
+    (λ c. search needs) loop-again (λ c. search needs) returns)

@@ -6,8 +6,8 @@ use Prim.Native.Nat.{ℕ, _+_, _-_, _≤_}
 use native.Mathlib.Omega.{arith}
 use lib.ListN.{length, length-set}
 use borrow.Author.Needs.{needs}
-use Rattle.splice.specs.Splice.{moved}
-use Rattle.splice.proofs.Laws.{moved-none, moved-back, moved-one}
+use Rattle.splice.specs.Moves.{moved}
+use Rattle.splice.proofs.Moves.{moved-none, moved-back, moved-one}
 use Rattle.splice.proofs.move_down.Statement.{statement}
 use Rattle.splice.proofs.move_down.Tie as tie
 
@@ -27,8 +27,12 @@ loop-again : tie.Need-loop-again Inv-loop μ-loop
 loop-again c =
     let l = c .before .before .loop in
     let s = c .before .before .before .before .before .before .before .before .args in
-    let one = moved-one (l .w) (l .j) (l .j - s .by) (omega arith) (omega arith) in
-    (omega arith, omega arith, one ∙ moved-back _ _ _ (l .j) (l .j + 1) _ (l .inv .2) (omega arith) (omega arith) (omega arith) (omega arith), simp length-set (l .inv .3))
+    let one = moved-one (l .w) (l .j) (l .j - s .by) (omega arith) (omega arith) in (
+      omega arith,
+      omega arith,
+      one ∙ moved-back _ _ _ (l .j) (l .j + 1) _ (l .inv .2) (omega arith) (omega arith) (omega arith) (omega arith),
+      simp length-set (l .inv .3),
+    )
 
 returns : tie.Need-returns Inv-loop μ-loop
 returns c =
@@ -43,16 +47,5 @@ returns c =
 pub move-down-spec : {M : Type 1} → statement M
 move-down-spec =
     tie.close
-    (tie.spec
-    Inv-loop
-    μ-loop
-    (λ c κs. search needs)
-    loop-holds
-    (λ c. search needs)
-    (λ c. search needs)
-    (λ c. search needs)
-    (λ c. search needs)
-    (λ c. search needs)
-    loop-again
-    (λ c. search needs)
-    returns)
+    (tie.spec Inv-loop μ-loop (λ c κs. search needs) loop-holds (λ c. search needs) (λ c. search needs) (λ c. search needs)
+    (λ c. search needs) (λ c. search needs) loop-again (λ c. search needs) returns)

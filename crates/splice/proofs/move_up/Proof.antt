@@ -6,8 +6,8 @@ use Prim.Native.Nat.{ℕ, _+_, _-_, _≤_}
 use native.Mathlib.Omega.{arith}
 use lib.ListN.{length, length-set}
 use borrow.Author.Needs.{needs}
-use Rattle.splice.specs.Splice.{moved}
-use Rattle.splice.proofs.Laws.{moved-none, moved-front, moved-one}
+use Rattle.splice.specs.Moves.{moved}
+use Rattle.splice.proofs.Moves.{moved-none, moved-front, moved-one}
 use Rattle.splice.proofs.move_up.Statement.{statement}
 use Rattle.splice.proofs.move_up.Tie as tie
 
@@ -28,8 +28,12 @@ loop-again c =
     let l = c .before .before .loop in
     let s = c .before .before .before .before .before .before .before .before .args in
     let i : ℕ = l .j - 1 in
-    let one = moved-one (l .w) i (i + s .by) (omega arith) (omega arith) in
-    (omega arith, omega arith, one ∙ moved-front _ _ i (i + 1) (l .j) _ _ (l .inv .2) (omega arith) (omega arith) (omega arith) (omega arith), simp length-set (l .inv .3))
+    let one = moved-one (l .w) i (i + s .by) (omega arith) (omega arith) in (
+      omega arith,
+      omega arith,
+      one ∙ moved-front _ _ i (i + 1) (l .j) _ _ (l .inv .2) (omega arith) (omega arith) (omega arith) (omega arith),
+      simp length-set (l .inv .3),
+    )
 
 returns : tie.Need-returns Inv-loop μ-loop
 returns c =
@@ -44,16 +48,5 @@ returns c =
 pub move-up-spec : {M : Type 1} → statement M
 move-up-spec =
     tie.close
-    (tie.spec
-    Inv-loop
-    μ-loop
-    (λ c κs. search needs)
-    loop-holds
-    (λ c. search needs)
-    (λ c. search needs)
-    (λ c. search needs)
-    (λ c. search needs)
-    (λ c. search needs)
-    loop-again
-    (λ c. search needs)
-    returns)
+    (tie.spec Inv-loop μ-loop (λ c κs. search needs) loop-holds (λ c. search needs) (λ c. search needs) (λ c. search needs)
+    (λ c. search needs) (λ c. search needs) loop-again (λ c. search needs) returns)

@@ -1,7 +1,7 @@
 -- `splice::splice` meets its contract: what stands behind the part moves from `at + gone` to `at` and the length of `new`, and `copy_in` puts
 -- `new` where the elements moved away from. Assumes nothing.
 use borrow.Author.Needs.{needs}
-use Rattle.splice.proofs.Laws.{paste-moved}
+use Rattle.splice.proofs.Splices.{paste-moved}
 use Rattle.splice.proofs.splice.Statement.{statement}
 use Rattle.splice.proofs.splice.Tie as tie
 
@@ -15,4 +15,5 @@ returns c =
 
 pub splice-spec : {M : Type 1} → statement M
 splice-spec =
-    tie.close (tie.spec (λ c. search needs) (λ c. search needs) (λ c κs. search needs) (λ c κs. search needs) (λ c. search needs) returns)
+    tie.close
+    (tie.spec (λ c. search needs) (λ c. search needs) (λ c κs. search needs) (λ c κs. search needs) (λ c. search needs) returns)

@@ -9,7 +9,7 @@ use lib.ListN.{length}
 use lib.Seq.{paste}
 use borrow.Author.Needs.{needs}
 use Rattle.splice.specs.Splice.{splicedTwo}
-use Rattle.splice.proofs.Laws.{behind-first, between-first}
+use Rattle.splice.proofs.Splices.{behind-first, between-first}
 use Rattle.splice.proofs.splice_two.Statement.{statement}
 use Rattle.splice.proofs.splice_two.Tie as tie
 
@@ -44,16 +44,5 @@ returns c = c .before .before .copy-in .ensures ∙ both-placed (c .before .befo
 pub splice-two-spec : {M : Type 1} → statement M
 splice-two-spec =
     tie.close
-    (tie.spec
-    (λ c. search needs)
-    (λ c. search needs)
-    (λ c. search needs)
-    (λ c. search needs)
-    (λ c κs. search needs)
-    (λ c κs. search needs)
-    (λ c κs. search needs)
-    (λ c. search needs)
-    (λ c κs. search needs)
-    copy-in-requires
-    same-length
-    returns)
+    (tie.spec (λ c. search needs) (λ c. search needs) (λ c. search needs) (λ c. search needs) (λ c κs. search needs)
+    (λ c κs. search needs) (λ c κs. search needs) (λ c. search needs) (λ c κs. search needs) copy-in-requires same-length returns)

@@ -1,0 +1,64 @@
+-- The text of each answer, and what it is to stand at the front of a lent buffer. Assumes nothing.
+use mathlib.Core.Path.{_≡_}
+use mathlib.Core.List.{List, [], _∷_, _++_}
+use mathlib.Core.Option.{Option, none, some}
+use Prim.Native.Nat.{ℕ, _≤_}
+use lib.ListN.{length, take}
+use Rattle.answers.specs.declared.Fault.{Fault}
+use Rattle.answers.specs.declared.Fault.the-variants.{NotSound, NotAnInstance}
+use Rattle.answers.specs.Numbers.{faultNumber}
+use Rattle.rows.specs.declared.Table.{Table}
+use Rattle.rows.specs.Tables.{Tables}
+use Rattle.rows.specs.Fields.{values}
+use Rattle.rows.specs.Rows.{keyFields}
+use Rattle.instance_decode.specs.Decoding.{Reading}
+use Rattle.image_transfer.specs.Transfer.{imageOf}
+use Rattle.text_values.specs.Texts.{decimalText, hexText, dottedText}
+use Rattle.text_rows.specs.RowText.{keyText}
+
+-- "oid ", "instance ", "image "
+abbrev pub oidText : List ℕ
+oidText = 111 ∷ 105 ∷ 100 ∷ 32 ∷ []
+
+abbrev pub instanceText : List ℕ
+instanceText = 105 ∷ 110 ∷ 115 ∷ 116 ∷ 97 ∷ 110 ∷ 99 ∷ 101 ∷ 32 ∷ []
+
+abbrev pub imageText : List ℕ
+imageText = 105 ∷ 109 ∷ 97 ∷ 103 ∷ 101 ∷ 32 ∷ []
+
+abbrev pub faultText : Fault → List ℕ
+faultText f = decimalText (faultNumber f)
+
+-- room for an instance in parts: the longest has 110
+abbrev pub parts : ℕ
+parts = 128
+
+abbrev pub encodedText : Option Fault → List ℕ → List ℕ
+encodedText none oid = oidText ++ dottedText oid
+encodedText (some f) oid = faultText f
+
+abbrev pub columnKey : Table → ℕ → List (List ℕ) → List ℕ
+columnKey t column fields = instanceText ++ (decimalText column ++ (32 ∷ keyText t fields))
+
+abbrev pub instanceOf : Table → ℕ → List ℕ → List ℕ
+instanceOf t column key = columnKey t column (values (keyFields t) key)
+
+abbrev pub decodedText : Option Reading → List ℕ
+decodedText none = faultText NotAnInstance
+decodedText (some d) = columnKey (d .table) (d .column) (d .fields)
+
+abbrev pub imageTextOf : Option Tables → List ℕ
+imageTextOf none = faultText NotSound
+imageTextOf (some t) = imageText ++ hexText (imageOf t)
+
+-- room for the longest answer, an image's text of 6 + 2 * 46,456
+abbrev pub answerRoom : ℕ
+answerRoom = 95000
+
+abbrev pub Room : List ℕ → Type 0
+Room out = answerRoom ≤ length out
+
+-- the text at the front of the buffer, r octets of it
+pub record Shows (text out : List ℕ) (r : ℕ) : Type 0 where
+  pub is : take r out ≡ text
+  pub inside : r ≤ length out

@@ -1,0 +1,47 @@
+-- A row found where it lies: what is carried along lies within w and is whole, and what each whole row passes every row of a sound table does.
+-- Assumes nothing.
+use mathlib.Core.Path.{_≡_, _∙_}
+use mathlib.Core.Bool.{Bool, true}
+use mathlib.Core.List.{List, [], map}
+use mathlib.Core.Option.{Option, none, Option·map}
+use Prim.Native.Nat.{ℕ, _+_, _≤_}
+use native.Mathlib.Omega.{arith}
+use lib.ListN.{length}
+use Rattle.lists.specs.Lists.{every, OnSome, isNone}
+use Rattle.lists.proofs.Keeps.{every-imp, every-map}
+use Rattle.rows.specs.declared.Table.{Table}
+use Rattle.rows.specs.Fields.{faults}
+use Rattle.rows.specs.Rows.{rowFields}
+use Rattle.image_judge.specs.Faults.{tableFault}
+use Rattle.image_layout.proofs.Walks.{piece}
+use Rattle.image_judge.proofs.Sound.{every-whole}
+use Rattle.decision_steps.specs.Bytes.{Whole}
+use Rattle.decision_find.specs.declared.Found.{Found}
+use Rattle.decision_find.specs.declared.Found.the-variants.{Row, Nothing}
+use Rattle.decision_find.specs.Found.{bytesAt, FoundIn, Chosen}
+use Rattle.decision_find.proofs.Backwards.{is-none}
+
+-- ---- whole rows
+
+-- what each whole row passes
+module _ {R : Type 0} (t : Table) (of : List ℕ → R) (g : R → Bool) (h : (row : List ℕ) → Whole t row → g (of row) ≡ true) where
+  pub every-of : (rows : List (List ℕ)) → tableFault t [] rows ≡ none → every g (map of rows) ≡ true
+  every-of rows e =
+      every-map of g rows
+      ∙ every-imp (λ r. isNone (faults (rowFields t) r)) (λ r. g (of r)) rows (λ r i. h r (is-none _ i)) (every-whole t [] rows e)
+
+-- ---- a row that is carried: it lies within w and is whole
+
+pub record Held (t : Table) (w : List ℕ) (found : Found) : Type 0 where
+  pub lies : FoundIn w found
+  pub whole : OnSome (Whole t) (bytesAt w found)
+
+pub held-none : (t : Table) (w : List ℕ) → Held t w Nothing
+held-none t w = record { lies = tt; whole = tt }
+
+pub held-row : (t : Table) (w : List ℕ) (o l : ℕ) → o + l ≤ length w → Whole t (piece w o (o + l)) → Held t w (Row o (o + l))
+held-row t w o l h e = record { lies = (omega arith, h); whole = e }
+
+pub chosen : {R : Type 0} {t : Table} {of : List ℕ → R} {w : List ℕ} {found : Found} {choice : Option R} → Held t w found
+    → Option·map of (bytesAt w found) ≡ choice → Chosen t of w found choice
+chosen h e = record { lies = h .lies; whole = h .whole; is = e }

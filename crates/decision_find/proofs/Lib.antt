@@ -1,0 +1,5 @@
+pub mod Chosen
+pub mod Scans
+pub mod Backwards
+pub mod Best
+pub mod Views

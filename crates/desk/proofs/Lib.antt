@@ -1,4 +1,0 @@
-pub mod Leading
-pub mod Showing
-pub mod Telling
-pub mod Printing

@@ -1,0 +1,239 @@
+-- What an edit promises of a sound store, by the answer at the place of its key.
+-- A sound store holds the tables of its rows' bytes, and so does the store afterwards, which is sound again (`Stores` of crate `table_update`):
+-- so the promise is one equation between the edit of the tables and the answer with the tables that stand afterwards (`edits-made`), which is
+-- `edit-change`. Where the answer is Done, a row put is held or has room, and a row removed is held. Assumes nothing.
+use mathlib.Core.Path.{_≡_, refl, sym, ap, ap₂, subst, _∙_}
+use mathlib.Core.Bool.{Bool, true, false, cond, not, _&&_}
+use mathlib.Core.List.{List, [], _∷_}
+use mathlib.Core.Logic.{⊎-elim}
+use mathlib.Core.Option.{none, some}
+use Prim.Native.Nat.{ℕ, _+_, _-_, _*_, _≤_, _<_}
+use native.Mathlib.Omega.{arith}
+use lib.Dec.{leb}
+use lib.ListN.{length, take}
+use lib.Seq.{take-all}
+use borrow.Author.Tests.{leb-false}
+use types.Run.{OneOf}
+use denote.Enum.Declared.{tagOf}
+use Rattle.answers.specs.declared.Fault.{Fault}
+use Rattle.answers.specs.declared.Fault.the-variants.{NotSound, TableFull, RowAbsent, StorageForbids}
+use Rattle.lists.proofs.Bools.{split, clash, is-true, cond-true, cond-false}
+use Rattle.rows.specs.declared.Table.{Table}
+use Rattle.rows.specs.declared.Table.the-variants.{Context, Mapping, Access, View}
+use Rattle.rows.specs.Fields.{faults, span}
+use Rattle.rows.specs.Rows.{keyFields, rowFields, limit}
+use Rattle.rows.specs.Tables.{Tables}
+use Rattle.rows.proofs.Appends.{key-room}
+use Rattle.rows.proofs.Inverse.{span-whole}
+use Rattle.big_endian.specs.BigEndian.{Octets}
+use Rattle.image_layout.specs.declared.Layout.{Layout}
+use Rattle.image_layout.specs.declared.Extent.{Extent}
+use Rattle.image_layout.specs.Layout.{Inside, endOf, layoutOf}
+use Rattle.image_judge.specs.Faults.{SoundLayout, tablesAt}
+use Rattle.image.specs.Store.{isSound, held}
+use Rattle.image.proofs.Surveys.{sound-layout}
+use Rattle.table_update.specs.declared.Place.{Place}
+use Rattle.table_update.specs.Exchange.{extentOf, tableRows, oneIf, rowsBefore, isHeld, PlaceIn, Sought, ImageIn, oneRow, Exchanges}
+use Rattle.table_update.proofs.Splits.{length-rows}
+use Rattle.table_update.proofs.Stores.{rowKey, sound-whole, sound-ascends, sound-put, sound-removed, sought-exchanges, one-row}
+use Rattle.table_update.proofs.Rooms.{image-in, room-for, room-removed}
+use Rattle.edit_rules.specs.declared.Change.{Change}
+use Rattle.edit_rules.specs.declared.Change.the-variants.{Put, Remove}
+use Rattle.edit_rules.specs.declared.Edited.{Edited}
+use Rattle.edit_rules.proofs.Edited.{the-type}
+use Rattle.edit_rules.specs.declared.Edited.the-variants.{Done, Barred, Faulty}
+use Rattle.edit_rules.specs.Edits.{Outcome, editOf, fieldsOf, edit, isContext}
+use Rattle.edit_rules.specs.Storage.{storageIn, StorageIn, storageAt, mayChange, absentAnswer, placeAnswer}
+use Rattle.edit_rules.proofs.Storages.{storage-room, storage-at, held-storage}
+use Rattle.edit_rules.proofs.Outcomes.{outcome, afterwards, judged, changed, comes, tables, tables-ext, key-whole, edit-change}
+use Rattle.edit_rows.specs.Promise.{answered, left, Edits, lengthIn}
+
+-- each table of a sound store lies within it
+pub table-inside : (t : Table) (w : List ℕ) → isSound w ≡ true → Inside w (extentOf t (layoutOf w))
+table-inside Context w h = sound-layout w h .contexts-sound .inside
+table-inside Mapping w h = sound-layout w h .mappings-sound .inside
+table-inside Access w h = sound-layout w h .accesses-sound .inside
+table-inside View w h = sound-layout w h .views-sound .inside
+
+-- ---- where the tables lie, as the code has it
+
+module _ {w : List ℕ} {l : Layout} (h : isSound w ≡ true) (q : l ≡ layoutOf w) where
+  pub inside-laid : (t : Table) {x : Extent} → x ≡ extentOf t l → Inside w x
+  inside-laid t e = rw (e ∙ ap (extentOf t) q) (table-inside t w h)
+
+  pub views-laid : Inside w (l .views)
+  views-laid = rw q (table-inside View w h)
+
+  pub sound-laid : SoundLayout w l
+  sound-laid = rw q (sound-layout w h)
+
+  pub image-laid : {end : ℕ} → end ≡ endOf w (l .views) → ImageIn w end
+  image-laid e = rw (e ∙ ap (λ k. endOf w (k .views)) q) (image-in w h)
+
+-- as the code seeks: in an extent that is known, by the bytes up to k
+pub sought-laid : (t : Table) (w bytes : List ℕ) {l : Layout} {x : Extent} {k : ℕ} {p : Place} → l ≡ layoutOf w → x ≡ extentOf t l
+    → k ≡ span (keyFields t) bytes → Sought w x (take (k - 0) bytes) p → Sought w (extentOf t (layoutOf w)) (rowKey t bytes) p
+sought-laid t w bytes {l} {x} {k} q y e s = let z : k - 0 ≡ span (keyFields t) bytes = omega arith in rw (← q, ← y, ← z) s
+
+-- ---- the promise
+
+abbrev pub storeRows : List ℕ → Table → List (List ℕ)
+storeRows w t = tableRows t w
+
+held-sound : (w : List ℕ) → isSound w ≡ true → held w ≡ some (tables (storeRows w))
+unfolding held tablesAt
+held-sound w h = cond-true _ _ h
+
+held-unsound : (w : List ℕ) → isSound w ≡ false → held w ≡ none
+unfolding held
+held-unsound w h = cond-false _ _ h
+
+pub edits-unsound : (f : Tables → Outcome Tables) (w : List ℕ) → isSound w ≡ false → Edits f w w (Faulty NotSound)
+edits-unsound f w h =
+    let e = held-unsound w h in
+    record { answer-is = sym (ap (answered f) e); rows-are = e ∙ sym (ap (left f) e); refusal-keeps = λ n. refl }
+
+module _ (f : Tables → Outcome Tables) (w : List ℕ) (h : isSound w ≡ true) where
+  edits-made : (after : List ℕ) (r : Edited) → isSound after ≡ true → f (tables (storeRows w)) ≡ outcome r (tables (storeRows after)) →
+      ((r ≡ Done → ⊥) → after ≡ w)
+      → Edits f w after r
+  edits-made after r g e k = record {
+    answer-is = sym (ap (answered f) (held-sound w h) ∙ ap (λ o. o .answer) e);
+    rows-are = held-sound after g ∙ sym (ap (left f) (held-sound w h) ∙ ap (λ o. some (o .rows)) e);
+    refusal-keeps = k;
+  }
+
+  pub edits-refused : (r : Edited) → f (tables (storeRows w)) ≡ outcome r (tables (storeRows w)) → Edits f w w r
+  edits-refused r e = edits-made w r h e (λ n. refl)
+
+  -- by another edit that does the same to these tables
+  pub edits-same : (g : Tables → Outcome Tables) → f (tables (storeRows w)) ≡ g (tables (storeRows w)) → {after : List ℕ} {r : Edited}
+      → Edits g w after r → Edits f w after r
+  edits-same g e k =
+      let q = held-sound w h in
+      record {
+        answer-is = k .answer-is ∙ ap (answered g) q ∙ sym (ap (answered f) q ∙ ap (λ o. o .answer) e);
+        rows-are = k .rows-are ∙ ap (left g) q ∙ sym (ap (left f) q ∙ ap (λ o. some (o .rows)) e);
+        refusal-keeps = k .refusal-keeps;
+      }
+
+  edits-done : (after : List ℕ) → isSound after ≡ true → f (tables (storeRows w)) ≡ outcome Done (tables (storeRows after)) → Edits f w after Done
+  edits-done after g e = edits-made after Done g e (λ n. absurd (n refl))
+
+-- ---- the answer at the place
+
+stays : {A : Type 0} (new old : A) (r : Edited) → (r ≡ Done → ⊥) → afterwards new old r ≡ old
+stays new old Done m = absurd (m refl)
+stays new old (Barred c) m = refl
+stays new old (Faulty g) m = refl
+
+faulty-done : {g : Fault} → Faulty g ≡ Done → ⊥
+faulty-done e = let z : _≡_ {A = ℕ} 0 1 = cc e in omega arith
+
+-- by the numbers of the variants
+pub not-done : (r : Edited) → OneOf (1 ∷ 2 ∷ []) (tagOf the-type r) → r ≡ Done → ⊥
+not-done r o e = let z : tagOf the-type r ≡ 0 = ap (tagOf the-type) e in ⊎-elim (λ h. omega arith) (λ h. omega arith) o
+
+-- Done only where the row is held, or is put where there is room
+absent-room : (c : Change) (n m : ℕ) → absentAnswer c n m ≡ Done → (c ≡ Put) × (m < n)
+absent-room Put n m e =
+    split (leb n m) (λ b. let z : Faulty TableFull ≡ Done = rw b at e in absurd (faulty-done z)) (λ b. (refl, leb-false n m b))
+absent-room Remove n m e = absurd (faulty-done e)
+
+done-room : (strict : Bool) (c : Change) (n : ℕ) (h : Bool) (old new m : ℕ) → placeAnswer strict c n h old new m ≡ Done → h ≡ false → (c ≡ Put) × (m < n)
+done-room strict c n true old new m e f = clash refl f
+done-room strict c n false old new m e f =
+    split (strict && not (mayChange c old new)) (λ b. let z : Faulty StorageForbids ≡ Done = rw b at e in absurd (faulty-done z))
+    (λ b. absent-room c n m (rw b at e))
+
+-- ---- the bytes handed: where the key ends, and what comes into the table
+
+pub key-within : (c : Change) (t : Table) (bytes : List ℕ) → faults (fieldsOf c t) bytes ≡ none → span (keyFields t) bytes ≤ length bytes
+key-within Put t bytes f = key-room t bytes f
+key-within Remove t bytes f = omega (arith, span-whole (keyFields t) bytes f)
+
+abbrev taken : Change → List ℕ → List ℕ
+taken Put bytes = bytes
+taken Remove bytes = []
+
+taken-is : (c : Change) (bytes : List ℕ) {n : ℕ} → n ≡ lengthIn c (length bytes) → take (n - 0) bytes ≡ taken c bytes
+taken-is Put bytes {n} e = take-all (n - 0) bytes (omega arith)
+taken-is Remove bytes {n} e = let z : n - 0 ≡ 0 = omega arith in ap (λ m. take m bytes) z
+
+pub taken-within : (c : Change) (bytes : List ℕ) {n : ℕ} → n ≡ lengthIn c (length bytes) → n ≤ length bytes
+taken-within Put bytes e = omega arith
+taken-within Remove bytes e = omega arith
+
+comes-taken : (c : Change) (t : Table) (bytes : List ℕ) → Octets bytes → faults (fieldsOf c t) bytes ≡ none → oneRow (taken c bytes) ≡ comes c bytes
+comes-taken Put t bytes d f = one-row t bytes d f
+comes-taken Remove t bytes d f = refl
+
+-- ---- a row changed in a sound store
+
+module _ (t : Table) (w : List ℕ) (h : isSound w ≡ true) (b : Octets w) (strict : Bool) (n : strict ≡ true → isContext t ≡ false)
+    (bytes : List ℕ) (d : Octets bytes) {p : Place} (s : Sought w (extentOf t (layoutOf w)) (rowKey t bytes) p) where
+  abbrev key : List ℕ
+  key = rowKey t bytes
+
+  abbrev rows : List (List ℕ)
+  rows = tableRows t w
+
+  abbrev pub answerAt : Change → Edited
+  answerAt c = placeAnswer strict c (limit t) (p .present) (storageAt w p) (storageIn bytes) (extentOf t (layoutOf w) .count)
+
+  -- where the row is not held, the answer Done is of a put, and there is room
+  absent-done : (c : Change) → answerAt c ≡ Done → p .present ≡ false → (c ≡ Put) × (extentOf t (layoutOf w) .count < limit t)
+  absent-done c e = done-room strict c (limit t) (p .present) (storageAt w p) (storageIn bytes) (extentOf t (layoutOf w) .count) e
+
+  room-left : answerAt Put ≡ Done → isHeld key rows ≡ false → length rows < limit t
+  room-left e m = omega (arith, absent-done Put e (s .present-is ∙ m) .1, length-rows w (extentOf t (layoutOf w)))
+
+  removed-held : answerAt Remove ≡ Done → p .present ≡ true
+  removed-held e = is-true (p .present) (λ m. let z : _≡_ {A = ℕ} 0 1 = cc (absent-done Remove e m .0) in omega arith)
+
+  room-taken : (c : Change) → faults (fieldsOf c t) bytes ≡ none → answerAt c ≡ Done → {end : ℕ} → ImageIn w end
+      → (length (taken c bytes) < 65536) × (end + length (taken c bytes) + 2 ≤ length w + (p .end - p .from) + 2 * oneIf (p .present))
+  room-taken Put f e i = room-for t w bytes h b d f (room-left e) i s
+  room-taken Remove f e i = room-removed p i (removed-held e)
+
+  sound-after : (c : Change) → faults (fieldsOf c t) bytes ≡ none → answerAt c ≡ Done → {after : List ℕ}
+      → Exchanges t (rowsBefore key rows) (oneIf (isHeld key rows)) (comes c bytes) w after → isSound after ≡ true
+  sound-after Put f e x = sound-put t w bytes h b d f (room-left e) x
+  sound-after Remove f e x = sound-removed t w bytes h b d f (rw (key-whole t bytes f) at x)
+
+  module _ (c : Change) (f : faults (fieldsOf c t) bytes ≡ none) where
+    edit-is : edit strict (tables (storeRows w)) (editOf c t bytes)
+        ≡ judged (changed t (rowsBefore key rows) (oneIf (isHeld key rows)) (comes c bytes) (storeRows w)) (tables (storeRows w)) (answerAt c)
+    edit-is =
+        edit-change (storeRows w) (λ u. sound-whole u w h b) (λ u. sound-ascends u w h) strict t n bytes d c f
+        ∙ ap (judged (changed t (rowsBefore key rows) (oneIf (isHeld key rows)) (comes c bytes) (storeRows w)) (tables (storeRows w)))
+        (rw (storage-at s, s .present-is, length-rows w (extentOf t (layoutOf w))))
+
+    -- what answering asks
+    pub storage-known : strict ≡ true → StorageIn w p × (c ≡ Put → 2 ≤ length bytes)
+    storage-known y = (
+      held-storage s t (n y) (table-inside t w h) (sound-whole t w h b),
+      λ e. storage-room t (n y) bytes
+          (subst (λ k. faults (fieldsOf k t) bytes ≡ none) e f),
+    )
+
+    pub change-refused : (r : Edited) → r ≡ answerAt c → (r ≡ Done → ⊥) → Edits (λ ts. edit strict ts (editOf c t bytes)) w w r
+    change-refused r e m =
+        edits-refused (λ ts. edit strict ts (editOf c t bytes)) w h r (edit-is ∙ ap (judged _ _) (sym e) ∙ ap (outcome r) (stays _ (tables (storeRows w)) r m))
+
+    module _ (e : answerAt c ≡ Done) where
+      -- what exchanging asks
+      pub change-asked : {l : Layout} {x : Extent} {end k : ℕ} → l ≡ layoutOf w → x ≡ extentOf t l → end ≡ endOf w (l .views) → k ≡ lengthIn c (length bytes)
+          → (ImageIn w end × (x ≡ extentOf t (layoutOf w)) × PlaceIn w x p)
+          × ((length (take (k - 0) bytes) < 65536) × (end + length (take (k - 0) bytes) + 2 ≤ length w + (p .end - p .from) + 2 * oneIf (p .present)))
+      change-asked {l} {x} {end} q y v u =
+          let i : ImageIn w end = image-laid h q v in
+          let z : x ≡ extentOf t (layoutOf w) = y ∙ ap (extentOf t) q in
+          ((i, z, rw z (s .place-in)), rw (taken-is c bytes u) (room-taken c f e i))
+
+      pub change-done : {after : List ℕ} {k : ℕ} → k ≡ lengthIn c (length bytes)
+          → Exchanges t (p .row) (oneIf (p .present)) (oneRow (take (k - 0) bytes)) w after → Edits (λ ts. edit strict ts (editOf c t bytes)) w after Done
+      change-done {after} u x =
+          let y = sought-exchanges s (rw (taken-is c bytes u, comes-taken c t bytes d f) at x) in
+          edits-done (λ ts. edit strict ts (editOf c t bytes)) w h after (sound-after c f e y)
+          (edit-is ∙ ap (judged _ _) e ∙ ap (outcome Done) (sym (tables-ext (storeRows after) _ (y .rows-are))))

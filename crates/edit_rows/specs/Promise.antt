@@ -1,0 +1,33 @@
+-- What a call that edits promises: the answer, the rows afterwards, and that a refusal leaves the store as found. Assumes nothing.
+use mathlib.Core.Path.{_≡_}
+use mathlib.Core.List.{List}
+use mathlib.Core.Option.{Option, none, some}
+use Prim.Native.Nat.{ℕ}
+use Rattle.answers.specs.declared.Fault.the-variants.{NotSound}
+use Rattle.rows.specs.Tables.{Tables}
+use Rattle.image.specs.Store.{held}
+use Rattle.edit_rules.specs.declared.Change.{Change}
+use Rattle.edit_rules.specs.declared.Change.the-variants.{Put, Remove}
+use Rattle.edit_rules.specs.declared.Edited.{Edited}
+use Rattle.edit_rules.specs.declared.Edited.the-variants.{Done, Faulty}
+use Rattle.edit_rules.specs.Edits.{Outcome}
+
+-- 6 first
+abbrev pub answered : (Tables → Outcome Tables) → Option Tables → Edited
+answered f none = Faulty NotSound
+answered f (some t) = f t .answer
+
+abbrev pub left : (Tables → Outcome Tables) → Option Tables → Option Tables
+left f none = none
+left f (some t) = some (f t .rows)
+
+-- a call that edits by f, from the store `found` to the store `after`
+pub record Edits (f : Tables → Outcome Tables) (found after : List ℕ) (r : Edited) : Type 0 where
+  pub answer-is : r ≡ answered f (held found)
+  pub rows-are : held after ≡ left f (held found)
+  pub refusal-keeps : (r ≡ Done → ⊥) → after ≡ found
+
+-- how many of the bytes handed come into the table: a row put, all of them
+abbrev pub lengthIn : Change → ℕ → ℕ
+lengthIn Put n = n
+lengthIn Remove n = 0

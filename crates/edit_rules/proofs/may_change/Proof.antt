@@ -1,0 +1,29 @@
+-- `edit_rules::may_change` meets its contract: in each arm the change is known, and the rule is that of the definition. Assumes nothing.
+use mathlib.Core.Path.{ap, ap₂, _∙_}
+use mathlib.Core.Bool.{not}
+use mathlib.Core.Option.{some}
+use borrow.Author.Needs.{needs}
+use Rattle.edit_rules.specs.Edits.{isFixed, mayPut, mayRemove}
+use Rattle.edit_rules.proofs.may_change.Statement.{statement}
+use Rattle.edit_rules.proofs.may_change.Tie as tie
+
+storage-requires : tie.Need-storage-requires
+storage-requires c κs = c .before .before .before .before .before .pre .1 (c .enum-told .given .1)
+
+returns : tie.Need-returns
+returns c =
+    let o = c .before .before in
+    rw (o .enum-told .given .1) (c .may-replace .ensures ∙ ap₂ (λ x y. mayPut (some x) y) (o .before .before .held-storage .ensures)
+    (c .before .storage .ensures))
+
+returns-2 : tie.Need-returns-2
+unfolding mayRemove
+returns-2 c =
+    let o = c .before in
+    rw (o .enum-told2 .given .1) (ap not (c .is-fixed .ensures ∙ ap isFixed (o .before .before .held-storage .ensures)))
+
+pub may-change-spec : {M : Type 1} → statement M
+may-change-spec =
+    tie.close
+    (tie.spec (λ c κs. search needs) (λ c. search needs) storage-requires (λ c κs. search needs) (λ c. search needs)
+    (λ c κs. search needs) returns returns-2)

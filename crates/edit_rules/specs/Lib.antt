@@ -1,0 +1,4 @@
+pub mod Admission
+pub mod TableRows
+pub mod Edits
+pub mod Storage

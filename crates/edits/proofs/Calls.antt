@@ -1,0 +1,143 @@
+-- What the calls promise, by what the code finds.
+-- A store that is not sound is 6, and what is handed out of its ranges 7, to the owner and to a principal alike (`unready-owner`,
+-- `unready-principal`). Otherwise the owner's edit is the edit. A principal's is 7 for the caller's fields; a context row or the tables' refusal,
+-- where it is not admitted; and otherwise what the edit itself leaves, under the storage rules. Assumes nothing.
+use mathlib.Core.Path.{_≡_, refl, sym, ap, subst, _∙_}
+use mathlib.Core.Bool.{Bool, true, false, cond}
+use mathlib.Core.List.{List}
+use mathlib.Core.Option.{Option, none, some}
+use Prim.Native.Nat.{ℕ}
+use native.Mathlib.Omega.{arith}
+use Rattle.answers.specs.declared.Decision.{Decision}
+use Rattle.answers.specs.declared.Decision.the-variants.{Allowed, Refused}
+use Rattle.answers.specs.declared.Fault.{Fault}
+use Rattle.answers.specs.declared.Fault.the-variants.{NotSound, OutOfRange, ContextTable}
+use Rattle.lists.specs.Lists.{isNone}
+use Rattle.lists.proofs.Bools.{split, cond-true, cond-false, and-false-left, and-false-right}
+use Rattle.rows.specs.declared.Table.{Table}
+use Rattle.rows.specs.Fields.{faults, span}
+use Rattle.rows.specs.Rows.{keyFields}
+use Rattle.rows.specs.Tables.{Tables}
+use Rattle.image_layout.specs.declared.Layout.{Layout}
+use Rattle.image_layout.specs.Layout.{layoutOf}
+use Rattle.image_judge.specs.Faults.{tablesAt}
+use Rattle.image.specs.Store.{isSound}
+use Rattle.edit_rules.specs.declared.Change.{Change}
+use Rattle.edit_rules.specs.declared.Change.the-variants.{Put, Remove}
+use Rattle.edit_rules.specs.declared.Edited.{Edited}
+use Rattle.edit_rules.specs.declared.Edited.the-variants.{Barred, Faulty}
+use Rattle.edit_rules.specs.Edits.{Edit, Caller, tableOf, editOf, fieldsOf, edit, legalCaller, legalEdit, judgement, isContext, Outcome}
+use Rattle.edits.specs.Calls.{refused, allowed, ownerEdit, principalEdit, OwnerEdits, PrincipalEdits, prepared}
+use Rattle.edit_rules.proofs.Outcomes.{outcome, tables}
+use Rattle.edit_rows.specs.Promise.{Edits}
+use Rattle.edit_rows.proofs.Stores.{storeRows, edits-unsound, edits-refused, edits-same}
+use Rattle.edit_rules.specs.declared.Admission.the-variants.{Granted, Denied}
+use Rattle.edit_rules.specs.Admission.{admission}
+use Rattle.edits.specs.declared.Prepared.the-variants.{Ready, Unready}
+
+-- ---- what is handed
+
+pub legal-is : (c : Change) (t : Table) (bytes : List ℕ) → legalEdit (editOf c t bytes) ≡ isNone (faults (fieldsOf c t) bytes)
+unfolding legalEdit
+legal-is Put t bytes = refl
+legal-is Remove t bytes = refl
+
+none-is : (o : Option Fault) → isNone o ≡ true → o ≡ none
+none-is none e = refl
+none-is (some f) e = cc
+
+pub table-is : (c : Change) (t : Table) (bytes : List ℕ) → tableOf (editOf c t bytes) ≡ t
+table-is Put t bytes = refl
+table-is Remove t bytes = refl
+
+-- ---- what both kinds of call begin with
+
+ready-is : (a b : Bool) (d : Layout) (n : ℕ) {l : Layout} {k : ℕ} → Ready l k ≡ cond a (cond b (Ready d n) (Unready OutOfRange)) (Unready NotSound)
+    → (a ≡ true) × (b ≡ true) × (l ≡ d) × (k ≡ n)
+ready-is true true d n e = (refl, refl, cc, cc)
+ready-is true false d n e = (refl, cc, cc, cc)
+ready-is false b d n e = (cc, cc, cc, cc)
+
+module _ (c : Change) (t : Table) (w bytes : List ℕ) where
+  pub ready : {l : Layout} {k : ℕ} → Ready l k ≡ prepared w c t bytes
+      → (isSound w ≡ true) × (legalEdit (editOf c t bytes) ≡ true) × (l ≡ layoutOf w) × (k ≡ span (keyFields t) bytes)
+  ready e = ready-is (isSound w) (legalEdit (editOf c t bytes)) (layoutOf w) (span (keyFields t) bytes) e
+
+  pub ready-whole : legalEdit (editOf c t bytes) ≡ true → faults (fieldsOf c t) bytes ≡ none
+  ready-whole m = none-is (faults (fieldsOf c t) bytes) (sym (legal-is c t bytes) ∙ m)
+
+  pub prepared-unsound : isSound w ≡ false → Unready NotSound ≡ prepared w c t bytes
+  prepared-unsound a = sym (cond-false _ _ a)
+
+  pub prepared-illegal : isSound w ≡ true → {g : Fault} → faults (fieldsOf c t) bytes ≡ some g → Unready OutOfRange ≡ prepared w c t bytes
+  prepared-illegal a f = rw (a, legal-is c t bytes, f)
+
+  pub prepared-ready : isSound w ≡ true → faults (fieldsOf c t) bytes ≡ none → {l : Layout} {k : ℕ} → l ≡ layoutOf w → span (keyFields t) bytes ≡ k
+      → Ready l k ≡ prepared w c t bytes
+  prepared-ready a f q e = rw (a, legal-is c t bytes, f, q, e)
+
+  -- by any edit that refuses what is not legal
+  unready : (f : Tables → Outcome Tables) → (legalEdit (editOf c t bytes) ≡ false → (ts : Tables) → f ts ≡ outcome (Faulty OutOfRange) ts)
+      → {g : Fault} → Unready g ≡ prepared w c t bytes → Edits f w w (Faulty g)
+  unready f m {g} e =
+      split (isSound w)
+      (λ a. split (legalEdit (editOf c t bytes)) (λ b. let z : _≡_ {A = ℕ} 0 1 = cc (rw (a, b) at e) in absurd (omega arith))
+      (λ b. let z : g ≡ OutOfRange = cc (rw (a, b) at e) in rw z (edits-refused f w a (Faulty OutOfRange) (m b (tables (storeRows w))))))
+      (λ a. let z : g ≡ NotSound = cc (rw a at e) in rw z (edits-unsound f w a))
+
+  pub unready-owner : {g : Fault} → Unready g ≡ prepared w c t bytes → OwnerEdits (editOf c t bytes) w w (Faulty g)
+  unfolding ownerEdit
+  unready-owner e = unready (λ ts. ownerEdit ts (editOf c t bytes)) (λ b ts. cond-false _ _ b) e
+
+  pub unready-principal : (who : Caller) {g : Fault} → Unready g ≡ prepared w c t bytes → PrincipalEdits who (editOf c t bytes) w w (Faulty g)
+  unfolding principalEdit
+  unready-principal who e =
+      unready (λ ts. principalEdit ts who (editOf c t bytes)) (λ b ts. cond-false _ _ (and-false-right (legalCaller who) b)) e
+
+-- ---- the owner's edit is the edit, of what is legal
+
+pub owner-legal : (e : Edit) (w : List ℕ) {after : List ℕ} {r : Edited} → legalEdit e ≡ true → Edits (λ ts. edit false ts e) w after r → OwnerEdits e w after r
+unfolding ownerEdit
+owner-legal e w {after} {r} l k = subst (λ b. Edits (λ ts. cond b (edit false ts e) (refused (Faulty OutOfRange) ts)) w after r) (sym l) k
+
+-- ---- admission
+
+pub granted-free : (b : Bool) (j : Decision) → Granted ≡ admission b j → b ≡ false
+granted-free true j a = cc
+granted-free false j a = refl
+
+module _ (t : Tables) (e : Edit) where
+  granted-is : (b : Bool) (j : Decision) → Granted ≡ admission b j → cond b (refused (Faulty ContextTable) t) (allowed j t e) ≡ edit true t e
+  granted-is true j a = cc
+  granted-is false Allowed a = refl
+  granted-is false (Refused x) a = cc
+
+  denied-is : (b : Bool) (j : Decision) {r : Edited} → Denied r ≡ admission b j → cond b (refused (Faulty ContextTable) t) (allowed j t e) ≡ outcome r t
+  denied-is true j {r} a = let z : Faulty ContextTable ≡ r = cc in ap (λ u. outcome u t) z
+  denied-is false Allowed a = cc
+  denied-is false (Refused x) {r} a = let z : Barred x ≡ r = cc in ap (λ u. outcome u t) z
+
+-- ---- a principal's edit of a sound store, by what is legal
+
+module _ (who : Caller) (e : Edit) (w : List ℕ) (h : isSound w ≡ true) where
+  pub caller-illegal : legalCaller who ≡ false → PrincipalEdits who e w w (Faulty OutOfRange)
+  unfolding principalEdit
+  caller-illegal n = edits-refused (λ t. principalEdit t who e) w h (Faulty OutOfRange) (cond-false _ _ (and-false-left (legalEdit e) n))
+
+  -- judged by the tables that the store holds
+  module _ (l : legalCaller who ≡ true) (m : legalEdit e ≡ true) {d : Layout} (q : d ≡ layoutOf w) where
+    legal-edit : let t = tables (storeRows w) in
+        principalEdit t who e ≡ cond (isContext (tableOf e)) (refused (Faulty ContextTable) t) (allowed (judgement (tablesAt w d) who e) t e)
+    unfolding principalEdit tablesAt
+    legal-edit = rw (l, m, q)
+
+    pub principal-denied : {r : Edited} → Denied r ≡ admission (isContext (tableOf e)) (judgement (tablesAt w d) who e) → PrincipalEdits who e w w r
+    principal-denied {r} a =
+        edits-refused (λ t. principalEdit t who e) w h r
+        (legal-edit ∙ denied-is (tables (storeRows w)) e (isContext (tableOf e)) (judgement (tablesAt w d) who e) a)
+
+    pub principal-granted : Granted ≡ admission (isContext (tableOf e)) (judgement (tablesAt w d) who e) → {after : List ℕ} {r : Edited}
+        → Edits (λ t. edit true t e) w after r → PrincipalEdits who e w after r
+    principal-granted a k =
+        edits-same (λ t. principalEdit t who e) w h (λ t. edit true t e)
+        (legal-edit ∙ granted-is (tables (storeRows w)) e (isContext (tableOf e)) (judgement (tablesAt w d) who e) a) k

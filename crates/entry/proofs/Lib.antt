@@ -1,4 +1,0 @@
-pub mod Following
-pub mod Placing
-pub mod Saying
-pub mod Entering

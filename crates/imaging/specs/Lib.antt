@@ -1,3 +1,0 @@
-pub mod Imaging
-pub mod Inverse
-pub mod Examples

@@ -1,7 +1,0 @@
-pub mod Instances
-pub mod Runs
-pub mod Decoding
-pub mod Reading
-pub mod Inverse
-pub mod Examples
-pub mod Numbers

@@ -1,0 +1,4 @@
+pub mod Decoding
+pub mod Inverse
+pub mod Examples
+pub mod Numbers

@@ -1,0 +1,5 @@
+pub mod Filled
+pub mod Runs
+pub mod Keys
+pub mod Bases
+pub mod Answers

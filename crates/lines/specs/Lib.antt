@@ -1,4 +1,0 @@
-pub mod Requests
-pub mod Lines
-pub mod Runs
-pub mod Examples

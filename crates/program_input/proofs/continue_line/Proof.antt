@@ -1,0 +1,35 @@
+-- `program_input::continue_line` meets its contract: what there is room for of the part is what a cut of the whole line leaves (`Lines`). Assumes nothing.
+use mathlib.Core.Path.{_≡_}
+use Prim.Native.Nat.{_+_, _-_, min}
+use native.Mathlib.Omega.{arith}
+use lib.ListN.{length, drop}
+use borrow.Author.Needs.{needs}
+use Rattle.text_words.specs.Words.{run}
+use Rattle.program_input.proofs.Lines.{continue-made}
+use Rattle.text_words.proofs.Words.{run-most}
+use Rattle.program_input.proofs.continue_line.Statement.{statement}
+use Rattle.program_input.proofs.continue_line.Tie as tie
+
+returns : tie.Need-returns
+returns c = let f = c .before .before .before .before .before .before in
+    let a = f .before .before .before .args in
+    let n = c .before .before .before .before .before .least in
+    let v = drop (a .at) (a .piece .now) in
+    let e : f .end-of .result - a .at ≡ run 10 v = omega (arith, f .end-of .ensures .0) in
+    let m : n .result ≡ min (run 10 v) (length (a .line .now) - a .begun) = rw e at (n .ensures) in
+    let t : a .at + n .result - a .at ≡ n .result = omega arith in
+    record {
+      ends = f .end-of .ensures .0;
+      ends-in = f .end-of .ensures .1;
+      holds =
+          continue-made (a .line .now) (c .before .before .copy-in .last .0) v (a .begun) (run 10 v) (n .result) (f .before .before .before .pre .0)
+          (run-most 10 v) m (rw t at (c .before .before .copy-in .ensures));
+      holds-in = omega (arith, m);
+    }
+
+pub continue-line-spec : {M : Type 1} → statement M
+continue-line-spec =
+    tie.close
+    (tie.spec (λ c κs. search needs) (λ c. search needs) (λ c. search needs) (λ c κs. search needs) (λ c. search needs)
+    (λ c. search needs) (λ c. search needs) (λ c. search needs) (λ c κs. search needs) (λ c. search needs) (λ c. search needs)
+    returns)

@@ -1,0 +1,4 @@
+pub mod TableWords
+pub mod RowText
+pub mod RowWords
+pub mod Examples

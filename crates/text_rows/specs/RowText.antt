@@ -1,0 +1,18 @@
+-- A row's fields and a table's key as text: the fields in order, a key behind the table's word. Octets are ASCII. Assumes nothing.
+use mathlib.Core.List.{List, [], _∷_, _++_}
+use Prim.Native.Nat.{ℕ}
+use Rattle.rows.specs.declared.Table.{Table}
+use Rattle.rows.specs.Fields.{Field}
+use Rattle.rows.specs.Rows.{keyFields}
+use Rattle.text_rows.specs.TableWords.{tableWord}
+use Rattle.text_fields.specs.FieldText.{fieldText}
+
+-- each field with a space in front
+unfoldable pub fieldsText : List Field → List (List ℕ) → List ℕ
+fieldsText [] xs = []
+fieldsText (k ∷ ks) [] = []
+fieldsText (k ∷ ks) (x ∷ xs) = 32 ∷ (fieldText k x ++ fieldsText ks xs)
+
+-- the word, and the key's fields
+unfoldable pub keyText : Table → List (List ℕ) → List ℕ
+keyText t xs = tableWord t ++ fieldsText (keyFields t) xs

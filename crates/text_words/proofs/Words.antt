@@ -1,0 +1,328 @@
+-- Laws of words. `run` is how far the first mark stands, so that the octets before it are the first part and those behind it make the others.
+-- A number that digits say only grows with each digit, so that one that is too large stays so. What is read part by part is what was read, and
+-- what the rest says behind it. Assumes nothing.
+use mathlib.Core.Path.{_≡_, refl, sym, ap, _∙_}
+use mathlib.Core.Bool.{Bool, true, false, _&&_}
+use mathlib.Core.List.{List, [], _∷_, _++_, append-nil}
+use mathlib.Core.Option.{Option, none, some, Option·map}
+use Prim.Native.Nat.{ℕ, suc, _+_, _-_, _*_, _≤_, _<_}
+use native.Mathlib.Omega.{arith}
+use native.Mathlib.Numerals.{add-one}
+use lib.Dec.{eqb, ltb}
+use lib.ListN.{length, take, drop, set, getD, length-drop, length-set, drop-of-length-le}
+use lib.Seq.{drop-cons, drop-drop, take-suc-set, take-length, append-snoc}
+use borrow.Author.Tests.{eq-eqb, ne-eqb, lt-ltb, le-ltb, ltb-true, ltb-false}
+use Rattle.bytes.specs.Bytes.{slice, indexAfter, indexOf}
+use Rattle.lists.specs.Order.{same}
+use Rattle.lists.proofs.Bools.{split as by, clash, and-false-right}
+use Rattle.rows.specs.Fields.{within}
+use Rattle.rows.proofs.Sound.{within-most}
+use Rattle.rows.proofs.Steps.{within-low, within-high, within-yes}
+use Rattle.text_words.specs.declared.Number.{Number}
+use Rattle.text_words.specs.declared.Number.the-variants.{Of, Bad}
+use Rattle.text_words.specs.declared.Filled.{Filled}
+use Rattle.text_words.specs.declared.Filled.the-variants.{Upto, Malformed}
+use Rattle.text_words.specs.Words.{between, longer, split, run, digitsFrom, below32, decimal, numberOf, also, dash, hexDigit, hexPair, hexPairs}
+use Rattle.text_words.specs.Words.{hexOctets, decimals, dotted, Fills}
+
+-- ---- how far the first mark stands
+
+pub run-most : (mark : ℕ) (v : List ℕ) → run mark v ≤ length v
+unfolding run
+run-most mark [] = omega arith
+run-most mark (x ∷ xs) =
+    by (eqb x mark) (λ e. rw e (omega arith)) (λ e. rw e (let h = run-most mark xs in omega arith))
+
+-- the library's index of the mark
+run-index : (mark : ℕ) (v : List ℕ) → indexOf mark v ≡ run mark v
+unfolding run indexOf indexAfter
+run-index mark [] = refl
+run-index mark (x ∷ xs) = by (eqb x mark) (λ e. rw e) (λ e. rw e (ap suc (run-index mark xs)))
+
+pub run-found : (mark : ℕ) (v : List ℕ) (at : ℕ) → indexOf mark (slice at (length v) v) ≡ run mark (drop at v)
+unfolding slice
+run-found mark v at = rw (take-length v) (run-index mark (drop at v))
+
+-- ---- parts
+
+module _ (mark x : ℕ) (xs : List ℕ) where
+  pub run-mark : eqb x mark ≡ true → run mark (x ∷ xs) ≡ 0
+  unfolding run
+  run-mark e = rw e
+
+  pub run-other : eqb x mark ≡ false → run mark (x ∷ xs) ≡ suc (run mark xs)
+  unfolding run
+  run-other e = rw e
+
+  pub split-mark : eqb x mark ≡ true → split mark (x ∷ xs) ≡ [] ∷ split mark xs
+  unfolding split
+  split-mark e = rw e
+
+  pub split-other : eqb x mark ≡ false → split mark (x ∷ xs) ≡ longer x (split mark xs)
+  unfolding split
+  split-other e = rw e
+
+-- no mark: one part
+pub split-last : (mark : ℕ) (v : List ℕ) → run mark v ≡ length v → split mark v ≡ v ∷ []
+unfolding split
+split-last mark [] h = refl
+split-last mark (x ∷ xs) h =
+    by (eqb x mark) (λ e. absurd (omega (arith, run-mark mark x xs e)))
+    (λ e. split-other mark x xs e ∙ ap (longer x) (split-last mark xs (omega (arith, run-other mark x xs e))))
+
+-- a mark: the part before it, and the others
+pub split-next : (mark : ℕ) (v : List ℕ) → run mark v < length v → split mark v ≡ take (run mark v) v ∷ split mark (drop (run mark v + 1) v)
+split-next mark [] h = absurd (omega arith)
+split-next mark (x ∷ xs) h =
+    by (eqb x mark) (λ e. let r = run-mark mark x xs e in split-mark mark x xs e ∙ sym (rw r))
+    (λ e.
+    let r = run-other mark x xs e in
+    split-other mark x xs e ∙ ap (longer x) (split-next mark xs (omega arith)) ∙ sym (rw (r, add-one, add-one)))
+
+-- the same of a part that begins at `at` and ends at `end`
+module _ (mark : ℕ) (s : List ℕ) (at end : ℕ) (e : end ≡ at + run mark (drop at s)) where
+  pub part-last : end ≡ length s → split mark (drop at s) ≡ between at end s ∷ []
+  part-last h =
+      let l = length-drop at s in
+      let m = run-most mark (drop at s) in
+      let r : run mark (drop at s) ≡ length (drop at s) = omega arith in
+      let n : end - at ≡ length (drop at s) = omega arith in
+      split-last mark (drop at s) r ∙ ap (λ p. p ∷ []) (sym (rw n (take-length (drop at s))))
+
+  pub part-next : end < length s → split mark (drop at s) ≡ between at end s ∷ split mark (drop (end + 1) s)
+  part-next h =
+      let l = length-drop at s in
+      let r : run mark (drop at s) < length (drop at s) = omega arith in
+      let n : end - at ≡ run mark (drop at s) = omega arith in
+      let k : at + (run mark (drop at s) + 1) ≡ end + 1 = omega arith in
+      split-next mark (drop at s) r ∙ sym (rw (n, ← k, ← drop-drop (run mark (drop at s) + 1) at s))
+
+-- there is always a part
+pub split-some : (mark : ℕ) (v : List ℕ) → 1 ≤ length (split mark v)
+unfolding split
+split-some mark [] = omega arith
+split-some mark (x ∷ xs) = by (eqb x mark) (λ e. rw e (omega arith)) (λ e. rw e (longer-some x (split mark xs)))
+  where
+    longer-some : (x : ℕ) (ps : List (List ℕ)) → 1 ≤ length (longer x ps)
+    longer-some x [] = omega arith
+    longer-some x (p ∷ ps) = omega arith
+
+-- ---- a number
+
+-- too large, and so it stays
+digits-large : (n : ℕ) (cs : List ℕ) → 4294967296 ≤ n → below32 (digitsFrom n cs) ≡ none
+unfolding digitsFrom
+digits-large n [] h = rw (le-ltb n 4294967296 h)
+digits-large n (c ∷ cs) h =
+    by (within 48 57 c) (λ e. rw e (digits-large (n * 10 + (c - 48)) cs (omega arith))) (λ e. rw e)
+
+decimal-some : (w : List ℕ) → 0 < length w → decimal w ≡ below32 (digitsFrom 0 w)
+unfolding decimal
+decimal-some [] h = absurd (omega arith)
+decimal-some (c ∷ cs) h = refl
+
+pub decimal-empty : (w : List ℕ) → length w ≡ 0 → decimal w ≡ none
+unfolding decimal
+decimal-empty [] h = refl
+decimal-empty (c ∷ cs) h = absurd (omega arith)
+
+-- the digits up to i say n
+pub record Reading (w : List ℕ) (i n : ℕ) : Type 0 where
+  pub some-digits : 0 < length w
+  pub passed : i ≤ length w
+  pub small : n < 4294967296
+  pub says : digitsFrom 0 w ≡ digitsFrom n (drop i w)
+
+pub reading-start : (w : List ℕ) → 0 < length w → Reading w 0 0
+reading-start w h = record { some-digits = h; passed = omega arith; small = omega arith; says = refl }
+
+module _ {w : List ℕ} {i n : ℕ} (r : Reading w i n) where
+  pub reading-end : length w ≤ i → decimal w ≡ some n
+  unfolding digitsFrom
+  reading-end h = decimal-some w (r .some-digits) ∙ rw (r .says, drop-of-length-le w h, lt-ltb n 4294967296 (r .small))
+
+  module _ (h : i < length w) (c : ℕ) (e : c ≡ getD w i 0) where
+    digit-bad : within 48 57 c ≡ false → digitsFrom 0 w ≡ none
+    unfolding digitsFrom
+    digit-bad b = r .says ∙ rw (drop-cons w i 0 h, ← e, b)
+
+    digit-next : 48 ≤ c → c ≤ 57 → digitsFrom 0 w ≡ digitsFrom (n * 10 + (c - 48)) (drop (i + 1) w)
+    unfolding digitsFrom
+    digit-next a b = r .says ∙ rw (drop-cons w i 0 h, ← e, within-yes 48 57 c a b, add-one)
+
+    pub reading-low : c < 48 → decimal w ≡ none
+    reading-low b = decimal-some w (r .some-digits) ∙ rw (digit-bad (within-low 48 57 c b))
+
+    pub reading-high : 57 < c → decimal w ≡ none
+    reading-high b = decimal-some w (r .some-digits) ∙ rw (digit-bad (within-high 48 57 c b))
+
+    pub reading-large : 48 ≤ c → c ≤ 57 → 4294967295 < n * 10 + (c - 48) → decimal w ≡ none
+    reading-large a b l = decimal-some w (r .some-digits) ∙ rw (digit-next a b) (digits-large _ _ l)
+
+    pub reading-next : 48 ≤ c → c ≤ 57 → n * 10 + (c - 48) ≤ 4294967295 → Reading w (i + 1) (n * 10 + (c - 48))
+    reading-next a b l = record { some-digits = r .some-digits; passed = omega arith; small = omega arith; says = digit-next a b }
+
+-- ---- what is read part by part
+
+-- what stands in front, if the rest says anything
+abbrev behind : List ℕ → Option (List ℕ) → Option (List ℕ)
+behind xs o = Option·map (λ ys. xs ++ ys) o
+
+-- n elements of `out` and then what is left make all
+pub record Reads (all : Option (List ℕ)) (out : List ℕ) (n : ℕ) (left : Option (List ℕ)) : Type 0 where
+  pub inside : n ≤ length out
+  pub makes : all ≡ behind (take n out) left
+
+pub reads-start : (all : Option (List ℕ)) (out : List ℕ) → Reads all out 0 all
+reads-start none out = record { inside = omega arith; makes = refl }
+reads-start (some xs) out = record { inside = omega arith; makes = refl }
+
+put-next : (all : Option (List ℕ)) (out : List ℕ) (n x : ℕ) (left : Option (List ℕ)) → all ≡ behind (take n out) (also (some x) left) → n < length out
+    → all ≡ behind (take (n + 1) (set out n x)) left
+put-next all out n x none e h = e
+put-next all out n x (some xs) e h = e ∙ ap some (sym (rw (add-one, take-suc-set out n x h) (append-snoc (take n out) x xs)))
+
+module _ {all : Option (List ℕ)} {out : List ℕ} {n : ℕ} where
+  module _ {left : Option (List ℕ)} (r : Reads all out n left) where
+    pub reads-none : left ≡ none → Fills Malformed out all
+    reads-none e = record { is = sym (r .makes ∙ rw e); inside = omega arith }
+
+    module _ (part : Option ℕ) (rest : Option (List ℕ)) (e : left ≡ also part rest) where
+      -- the next part says x
+      pub reads-next : {x : ℕ} → part ≡ some x → n < length out → Reads all (set out n x) (n + 1) rest
+      reads-next {x} q h =
+          let m : left ≡ also (some x) rest = e ∙ ap (λ u. also u rest) q in
+          record { inside = simp length-set (omega arith); makes = put-next all out n x rest (r .makes ∙ ap (behind (take n out)) m) h }
+
+      pub reads-bad : part ≡ none → Fills Malformed out all
+      reads-bad q = reads-none (e ∙ ap (λ u. also u rest) q)
+
+    pub reads-end : left ≡ some [] → Fills (Upto n) out all
+    reads-end e = record { is = sym (r .makes ∙ rw e (ap some (append-nil (take n out)))); inside = r .inside }
+
+-- ---- a name
+
+pub hex-empty : (w out : List ℕ) → length w ≡ 0 → Fills Malformed out (hexOctets w)
+unfolding hexOctets
+hex-empty [] out h = record { is = refl; inside = omega arith }
+hex-empty (c ∷ cs) out h = absurd (omega arith)
+
+pub hex-dash : (w out : List ℕ) → same w dash ≡ true → Fills (Upto 0) out (hexOctets w)
+unfolding hexOctets same
+hex-dash [] out h = clash h refl
+hex-dash (c ∷ cs) out h = record { is = sym (rw h); inside = omega arith }
+
+pub hex-some : (w : List ℕ) → (length w ≡ 0 → ⊥) → same w dash ≡ false → hexOctets w ≡ hexPairs w
+unfolding hexOctets
+hex-some [] n h = absurd (n refl)
+hex-some (c ∷ cs) n h = rw h
+
+module _ (w : List ℕ) (i : ℕ) where
+  pub pairs-end : length w ≤ i → hexPairs (drop i w) ≡ some []
+  unfolding hexPairs
+  pairs-end h = rw (drop-of-length-le w h)
+
+  pub pairs-odd : i + 1 ≡ length w → hexPairs (drop i w) ≡ none
+  unfolding hexPairs
+  pairs-odd h =
+      let l : i < length w = omega arith in
+      let m : length w ≤ suc i = omega arith in
+      rw (drop-cons w i 0 l, drop-of-length-le w m)
+
+  pub pairs-next : i + 1 < length w → hexPairs (drop i w) ≡ also (hexPair (hexDigit (getD w i 0)) (hexDigit (getD w (i + 1) 0))) (hexPairs (drop (i + 1 + 1) w))
+  unfolding hexPairs
+  pairs-next h =
+      let l : i < length w = omega arith in
+      let m : suc i < length w = omega arith in
+      rw (drop-cons w i 0 l, drop-cons w (suc i) 0 m, add-one (i + 1), add-one i)
+
+-- ---- an identifier
+
+pub dotted-dash : (w out : List ℕ) → same w dash ≡ true → Fills (Upto 0) out (dotted w)
+unfolding dotted
+dotted-dash w out h = record { is = sym (rw h); inside = omega arith }
+
+pub dotted-some : (w : List ℕ) → same w dash ≡ false → dotted w ≡ decimals (split 46 w)
+unfolding dotted
+dotted-some w h = rw h
+
+module _ (w : List ℕ) (at end : ℕ) (e : end ≡ at + run 46 (drop at w)) where
+  pub dots-last : end ≡ length w → decimals (split 46 (drop at w)) ≡ also (decimal (between at end w)) (some [])
+  unfolding decimals
+  dots-last h = rw (part-last 46 w at end e h)
+
+  pub dots-next : end < length w → decimals (split 46 (drop at w)) ≡ also (decimal (between at end w)) (decimals (split 46 (drop (end + 1) w)))
+  unfolding decimals
+  dots-next h = rw (part-next 46 w at end e h)
+
+  pub dots-bad : end ≤ length w → decimal (between at end w) ≡ none → decimals (split 46 (drop at w)) ≡ none
+  dots-bad h b =
+      by (ltb end (length w)) (λ l. dots-next (ltb-true end (length w) l) ∙ rw b)
+      (λ l. dots-last (omega (arith, ltb-false end (length w) l)) ∙ rw b)
+
+-- a part that is a number is not empty
+pub part-some : (w : List ℕ) (at end x : ℕ) → decimal (between at end w) ≡ some x → at < end
+unfolding decimal
+part-some w at end x e =
+    by (ltb at end) (λ l. ltb-true at end l)
+    (λ l.
+    let n : end - at ≡ 0 = omega (arith, ltb-false at end l) in
+    let d : decimal (between at end w) ≡ none = rw n in
+    let z : _≡_ {A = ℕ} 0 1 = cc in
+    absurd (omega arith))
+
+-- ---- tests on octets
+
+and-true : (b : Bool) → b && true ≡ b
+and-true true = refl
+and-true false = refl
+
+pub dash-one : (w : List ℕ) → length w ≡ 1 → eqb (getD w 0 0) 45 ≡ same w dash
+unfolding same
+dash-one [] h = absurd (omega arith)
+dash-one (c ∷ []) h = sym (and-true (eqb c 45))
+dash-one (c ∷ d ∷ cs) h = absurd (omega arith)
+
+pub dash-other : (w : List ℕ) → (length w ≡ 1 → ⊥) → false ≡ same w dash
+unfolding same
+dash-other [] h = refl
+dash-other (c ∷ []) h = absurd (h refl)
+dash-other (c ∷ d ∷ cs) h = sym (and-false-right (eqb c 45) refl)
+
+-- a hex digit says less than 16
+pub hex-below : (c x : ℕ) → hexDigit c ≡ some x → x < 16
+unfolding hexDigit
+hex-below c x e =
+    by (within 48 57 c)
+    (λ a. let s : some (c - 48) ≡ some x = rw a at e in let l = within-most 48 57 c a in let y : c - 48 ≡ x = cc in omega arith)
+    (λ a. by (within 97 102 c)
+    (λ b. let s : some (c - 87) ≡ some x = rw (a, b) at e in let l = within-most 97 102 c b in let y : c - 87 ≡ x = cc in omega arith)
+    (λ b. by (within 65 70 c)
+    (λ d. let s : some (c - 55) ≡ some x = rw (a, b, d) at e in let l = within-most 65 70 c d in let y : c - 55 ≡ x = cc in omega arith)
+    (λ d. let s : none ≡ some x = rw (a, b, d) at e in let z : _≡_ {A = ℕ} 0 1 = cc in absurd (omega arith))))
+
+pub hexPair-below : (a b x : ℕ) → hexPair (hexDigit a) (hexDigit b) ≡ some x → x < 256
+hexPair-below a b x e = go (hexDigit a) (hexDigit b) (hex-below a) (hex-below b) e
+  where
+    go : (o p : Option ℕ) → ((y : ℕ) → o ≡ some y → y < 16) → ((y : ℕ) → p ≡ some y → y < 16) → hexPair o p ≡ some x → x < 256
+    go none p f g e = let z : _≡_ {A = ℕ} 0 1 = cc in absurd (omega arith)
+    go (some h) none f g e = let z : _≡_ {A = ℕ} 0 1 = cc in absurd (omega arith)
+    go (some h) (some l) f g e = let y : h * 16 + l ≡ x = cc in omega (arith, f h refl, g l refl)
+
+-- what a number that was read says
+pub number-is : {r : Number} {o : Option ℕ} (x : ℕ) → r ≡ Of x → numberOf r ≡ o → o ≡ some x
+number-is x e q = sym q ∙ ap numberOf e
+
+pub number-bad : {r : Number} {o : Option ℕ} → r ≡ Bad → numberOf r ≡ o → o ≡ none
+number-bad e q = sym q ∙ ap numberOf e
+
+-- what was read into a buffer
+module _ {filled : Filled} {out : List ℕ} {said : Option (List ℕ)} (f : Fills filled out said) where
+  pub filled-is : (n : ℕ) → filled ≡ Upto n → said ≡ some (take n out)
+  filled-is n e = sym (f .is) ∙ rw e
+
+  pub filled-in : (n : ℕ) → filled ≡ Upto n → n ≤ length out
+  filled-in n e = rw e at (f .inside)
+
+  pub filled-bad : filled ≡ Malformed → said ≡ none
+  filled-bad e = sym (f .is) ∙ rw e

@@ -1,0 +1,97 @@
+-- `text_words::dotted` meets its contract. The loop's invariant: the numbers at the buffer's front and those that the rest says make all of them (`Reads`).
+-- A part that is a number has an octet, and a dot follows it, so there is room for each. The measure is what is left of the word. Assumes nothing.
+use mathlib.Core.List.{[]}
+use mathlib.Core.Option.{some}
+use mathlib.Core.Path.{_≡_, refl, sym, _∙_}
+use Prim.Native.Nat.{_-_, _*_, _≤_, _<_}
+use native.Mathlib.Omega.{arith}
+use lib.ListN.{length, drop, length-set}
+use borrow.Author.Needs.{needs}
+use Rattle.text_words.specs.Words.{between, split, decimal, decimals, dotted}
+use Rattle.text_words.proofs.Words.{Reads, reads-start, reads-next, reads-none, reads-end, dotted-dash, dotted-some, dots-last, dots-next, dots-bad}
+use Rattle.text_words.proofs.Words.{part-some, number-is, number-bad}
+use Rattle.text_words.proofs.dotted.Statement.{statement}
+use Rattle.text_words.proofs.dotted.Tie as tie
+
+abbrev Inv-loop : tie.InvT-loop
+Inv-loop word out₀ at₀ n₀ out at n =
+    (at ≤ length word) × (2 * n ≤ at) × (length out ≡ length out₀)
+    × Reads (decimals (split 46 word)) out n (decimals (split 46 (drop at word)))
+
+abbrev μ-loop : tie.MeasureT-loop
+μ-loop word out₀ at₀ n₀ out at n = length word - at
+
+-- it is not `-`
+named : (c : tie.Else1 Inv-loop μ-loop) → let w = c .before .before .before .before .args .word .now in dotted w ≡ decimals (split 46 w)
+named c = dotted-some _ (sym (c .before .is-dash .ensures) ∙ c .if1 .left)
+
+-- what a part says, and that there is room for it
+part : (c : tie.After-known-told Inv-loop μ-loop) →
+    let f = c .before .before .before .before .before in
+    let l = f .before in
+    let w = l .before .before .before .before .before .args .word .now in
+    decimal (between (l .loop .at) (f .end-of .result) w) ≡ some (c .before .x .given .0 .0)
+part c = number-is _ (c .before .x .given .1) (c .before .before .before .decimal .ensures)
+
+room : (c : tie.After-known-told Inv-loop μ-loop) → let l = c .before .before .before .before .before .before .loop in l .n < length (l .out)
+room c =
+    let f = c .before .before .before .before .before in
+    let l = f .before in
+    let h = part-some _ (l .loop .at) (f .end-of .result) _ (part c) in
+    omega (arith, l .before .before .before .before .before .pre, f .end-of .ensures .1)
+
+returns : tie.Need-returns Inv-loop μ-loop
+returns c = dotted-dash _ _ (sym (c .before .is-dash .ensures) ∙ c .if1 .taken)
+
+loop-holds : tie.Need-loop-holds Inv-loop μ-loop
+loop-holds c = (omega arith, omega arith, refl, reads-start _ _)
+
+same-length : tie.Need-same-length Inv-loop μ-loop
+same-length c = c .before .before .before .before .before .loop .inv .2
+
+returns-2 : tie.Need-returns-2 Inv-loop μ-loop
+returns-2 c = let l = c .before .before .before .before .before in
+    rw (named (l .before))
+    (reads-none (l .loop .inv .3)
+    (dots-bad _ (l .loop .at) _ (c .before .before .before .before .end-of .ensures .0) (c .before .before .before .before .end-of .ensures .1)
+    (number-bad (c .enum-told .given .1) (c .before .before .decimal .ensures))))
+
+mul-out : tie.Need-mul-out Inv-loop μ-loop
+mul-out c = omega (arith, room c, c .before .before .before .before .before .before .before .before .before .before .before .good)
+
+slice-write-out : tie.Need-slice-write-out Inv-loop μ-loop
+slice-write-out c = room c
+
+add-n : tie.Need-add-n Inv-loop μ-loop
+add-n c = omega (arith, room c)
+
+add-at : tie.Need-add-at Inv-loop μ-loop
+add-at c = let f = c .before .before .before .before .before in omega (arith, f .end-of .ensures .1, f .before .before .before .before .before .before .good)
+
+same-length-2 : tie.Need-same-length-2 Inv-loop μ-loop
+same-length-2 c = let l = c .before .before .before .before .before .before .before .loop in length-set (l .out) (l .n) _ ∙ l .inv .2
+
+returns-3 : tie.Need-returns-3 Inv-loop μ-loop
+returns-3 c = let f = c .before .before .before .before .before .before in
+    let l = f .before in
+    let e : f .end-of .result ≡ length (l .before .before .before .before .before .args .word .now) = omega (arith, f .end-of .ensures .1, c .if2 .taken) in
+    rw (named (l .before))
+    (reads-end (reads-next (l .loop .inv .3) _ (some []) (dots-last _ (l .loop .at) _ (f .end-of .ensures .0) e) (part (c .before)) (room (c .before))) refl)
+
+loop-again : tie.Need-loop-again Inv-loop μ-loop
+loop-again c = let f = c .before .before .before .before .before .before in
+    let l = f .before in
+    let h : f .end-of .result < length (l .before .before .before .before .before .args .word .now) = omega (arith, f .end-of .ensures .1, c .if2 .left) in
+    let g = part-some _ (l .loop .at) (f .end-of .result) _ (part (c .before)) in (
+      omega arith,
+      omega arith,
+      length-set (l .loop .out) (l .loop .n) _ ∙ l .loop .inv .2,
+      reads-next (l .loop .inv .3) _ _ (dots-next _ (l .loop .at) _ (f .end-of .ensures .0) h) (part (c .before)) (room (c .before)),
+    )
+
+pub dotted-spec : {M : Type 1} → statement M
+dotted-spec =
+    tie.close
+    (tie.spec Inv-loop μ-loop (λ c κs. search needs) returns loop-holds (λ c κs. search needs) (λ c. search needs)
+    (λ c. search needs) (λ c. search needs) (λ c κs. search needs) (λ c. search needs) (λ c. search needs) same-length returns-2
+    mul-out slice-write-out add-n add-at same-length-2 returns-3 (λ c. search needs) loop-again)
