@@ -9,7 +9,7 @@ fn main() {
         Some(folder) => PathBuf::from(folder),
         None => PathBuf::from(env::var_os("CARGO_MANIFEST_DIR").unwrap()).join("../target/staticlib"),
     };
-    let agent = folder.join("libagent.a");
+    let agent = folder.join("libdugwalen.a");
     println!("cargo::rerun-if-changed={}", agent.display());
     if agent.exists() {
         println!("cargo::rustc-cfg=agent_linked");

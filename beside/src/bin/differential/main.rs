@@ -99,7 +99,7 @@ fn call_part(tally: &mut Tally, settings: &Settings, name: &'static str) -> Resu
         #[cfg(agent_linked)]
         agent::run(tally, &mut random, name, agent::linked::call, settings.rounds);
         #[cfg(not(agent_linked))]
-        return Err("the archive libagent.a was not there when this was built".to_string());
+        return Err("the archive libdugwalen.a was not there when this was built".to_string());
     }
     tally.require(name, IMAGE_PLACES);
     tally.require(name, &[("decision", CAUSES)]);
