@@ -11,6 +11,7 @@ pub enum Cause {
     NotInView,
 }
 
+// What RFC 3415 decides of a request.
 pub enum Decision {
     Allowed,
     Refused(Cause),
@@ -42,6 +43,7 @@ pub enum Written {
     Unwritten(Fault),
 }
 
+// The number of a cause.
 pub fn cause_number(c: Cause) -> u32
     ensures { λ r. ⌜ r ≡ causeNumber c ⌝ }
 {
@@ -54,6 +56,7 @@ pub fn cause_number(c: Cause) -> u32
     }
 }
 
+// The number of a decision.
 pub fn decision_number(d: Decision) -> u32
     ensures { λ r. ⌜ r ≡ decisionNumber d ⌝ }
 {
@@ -63,6 +66,7 @@ pub fn decision_number(d: Decision) -> u32
     }
 }
 
+// The number of a fault.
 pub fn fault_number(f: Fault) -> u32
     ensures { λ r. ⌜ r ≡ faultNumber f ⌝ }
 {
@@ -80,6 +84,7 @@ pub fn fault_number(f: Fault) -> u32
     }
 }
 
+// The number of the answer of a decision request.
 pub fn answer_number(a: Answer) -> u32
     ensures { λ r. ⌜ r ≡ answerNumber a ⌝ }
 {
@@ -89,6 +94,7 @@ pub fn answer_number(a: Answer) -> u32
     }
 }
 
+// The number of a writer's answer.
 pub fn written_number(w: Written) -> u32
     ensures { λ r. ⌜ r ≡ writtenNumber w ⌝ }
 {

@@ -36,6 +36,7 @@ fn length_number(w: Written) -> u64
     }
 }
 
+// `is_access_allowed`, by its number.
 #[no_mangle]
 pub extern "C" fn bench_decide(
     store: &[u8],
@@ -60,6 +61,7 @@ pub extern "C" fn bench_decide(
     ))
 }
 
+// The owner's put, by its number.
 #[no_mangle]
 pub extern "C" fn bench_owner_put(store: &mut [u8], table: u32, row: &[u8]) -> u32
     ensures { λ r. ⌜ Numbered editedNumber (OwnerEdits (put (tableNumbered table) (now (row .entry))) (now (store .entry)) (now (store .exit))) r ⌝ }
@@ -67,6 +69,7 @@ pub extern "C" fn bench_owner_put(store: &mut [u8], table: u32, row: &[u8]) -> u
     edits::edited_number(edits::owner_put(store, table_numbered(table), row))
 }
 
+// The owner's removal, by its number.
 #[no_mangle]
 pub extern "C" fn bench_owner_remove(store: &mut [u8], table: u32, key: &[u8]) -> u32
     ensures { λ r. ⌜ Numbered editedNumber (OwnerEdits (remove (tableNumbered table) (now (key .entry))) (now (store .entry)) (now (store .exit))) r ⌝ }
@@ -74,6 +77,7 @@ pub extern "C" fn bench_owner_remove(store: &mut [u8], table: u32, key: &[u8]) -
     edits::edited_number(edits::owner_remove(store, table_numbered(table), key))
 }
 
+// An image read into a store, by its number.
 #[no_mangle]
 pub extern "C" fn bench_read_image(image: &[u8], store: &mut [u8; ROOM]) -> u32
     ensures { λ r. ⌜ Numbered loadedNumber (Reads (now (image .entry)) (now (store .entry)) (now (store .exit))) r ⌝ }
@@ -81,6 +85,7 @@ pub extern "C" fn bench_read_image(image: &[u8], store: &mut [u8; ROOM]) -> u32
     image_transfer::loaded_number(image_transfer::read_image(image, store))
 }
 
+// A store's image written, by its length or its number.
 #[no_mangle]
 pub extern "C" fn bench_write_image(store: &[u8], out: &mut [u8]) -> u64
     ensures { λ r. ⌜ Numbered lengthNumber (Writes (held (now (store .entry))) (now (out .entry)) (now (out .exit))) r ⌝ }

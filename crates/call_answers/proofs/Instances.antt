@@ -3,7 +3,7 @@
 use mathlib.Core.Path.{_≡_, refl, sym, ap, _∙_}
 use mathlib.Core.Bool.{_&&_}
 use mathlib.Core.List.{List, [], _∷_, _++_}
-use mathlib.Core.Option.{Option, none, some, Option·none-ne-some}
+use mathlib.Core.Option.{Option, none, some, Option·none-ne-some, bind}
 use Prim.Native.Nat.{ℕ, _+_, _-_, _*_, _≤_}
 use native.Mathlib.Omega.{arith}
 use lib.Dec.{leb}
@@ -121,7 +121,7 @@ column-fields t (c ∷ v) d e =
     rw (← a .1 .1) (values-made (keyFields t) (a .0) (index-parsed (keyFields t) v (a .0) (a .1 .0) .0))
 
 read-fields : (oid : List ℕ) (d : Reading) → readInstance oid ≡ some d → values (keyFields (d .table)) (keyBytes d) ≡ d .fields
-unfolding readInstance
+unfolding readInstance bind
 read-fields oid d e =
     let a = then-some (tableOf oid) (λ t. readColumn t (drop (length (base t)) oid)) e in
     column-fields (a .0) (drop (length (base (a .0))) oid) d (a .1 .1)

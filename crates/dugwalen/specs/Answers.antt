@@ -19,11 +19,11 @@ use Rattle.rows.specs.declared.Table.{Table}
 use Rattle.rows.specs.declared.Table.the-variants.{Context, Mapping, Access}
 use Rattle.big_endian.specs.BigEndian.{size, number}
 use Rattle.rows.specs.Fields.{within, Field, sequence, integer, sequenceFault, integerFault, fault, taken, orElse, faults}
-use Rattle.rows.specs.Rows.{rowFields}
+use Rattle.rows.specs.Rows.{rowFields, indexOf}
 use Rattle.rows.specs.Tables.{Tables}
 use Rattle.image_layout.specs.declared.Layout.{Layout}
 use Rattle.image_layout.specs.Layout.{rowsIn, laidOut, imageLength, withinLimits, header}
-use Rattle.image_judge.specs.Faults.{indexOf, tableFault, rowsFault, tablesIn}
+use Rattle.image_judge.specs.Faults.{tableFault, rowsFault, tablesIn}
 use Rattle.image.specs.Image.{sizedFault, imageFault}
 use Rattle.decision_steps.specs.Request.{Request, legalRequest}
 use Rattle.decision_steps.specs.Decision.{decision, ifLegal}

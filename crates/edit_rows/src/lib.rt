@@ -19,18 +19,6 @@ ghost use Rattle.edit_rules.specs.Edits.{edit, editOf, fieldsOf, isContext};
 ghost use Rattle.edit_rules.specs.Storage.{storageIn, StorageIn, storageAt, absentAnswer, placeAnswer};
 ghost use Rattle.edit_rows.specs.Promise.{Edits, lengthIn};
 
-// The most rows that a table holds.
-fn limit(t: Table) -> usize
-    ensures { λ r. ⌜ r ≡ limit t ⌝ }
-{
-    match t {
-        Table::Context => 16,
-        Table::Mapping => 64,
-        Table::Access => 64,
-        Table::View => 96,
-    }
-}
-
 // The change of a row that is not held, in a table of so many rows.
 fn absent_answer(c: Change, t: Table, count: usize) -> Edited
     ensures { λ r. ⌜ r ≡ absentAnswer c (limit t) count ⌝ }
@@ -38,7 +26,7 @@ fn absent_answer(c: Change, t: Table, count: usize) -> Edited
     if let Change::Remove = c {
         return Edited::Faulty(Fault::RowAbsent);
     }
-    if limit(t) <= count {
+    if rows::limit(t) <= count {
         return Edited::Faulty(Fault::TableFull);
     }
     Edited::Done

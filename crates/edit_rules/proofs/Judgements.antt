@@ -92,7 +92,7 @@ index-short (k ∷ ks) v h =
     )
 
 instance-short : (t : Table) (key : List ℕ) → faults (keyFields t) key ≡ none → length (instance t (statusColumn t) (indexOf t key)) ≤ 110
-unfolding keyFields indexOf
+unfolding keyFields
 instance-short Context key h = omega (arith, index-short (keyFields Context) key h)
 instance-short Mapping key h = omega (arith, index-short (keyFields Mapping) key h)
 instance-short Access key h = omega (arith, index-short (keyFields Access) key h)
@@ -144,5 +144,5 @@ module _ (t : Table) (key : List ℕ) (f : faults (keyFields t) key ≡ none) {c
 -- and judging there is the judgement
 pub judged-at : (tables : Tables) (c : Caller) (t : Table) (key : List ℕ) {v : List ℕ} → v ≡ instance t (statusColumn t) (indexOf t key)
     → decision tables (asked (c .securityModel) (c .securityName) (c .securityLevel) write [] v) ≡ judgement tables c (remove t key)
-unfolding judgement indexOfEdit indexOf
+unfolding judgement indexOfEdit
 judged-at tables c t key e = ap (λ i. decision tables (asked (c .securityModel) (c .securityName) (c .securityLevel) write [] i)) e

@@ -17,11 +17,10 @@ use Rattle.lists.proofs.Greatest.{Ascends}
 use Rattle.rows.specs.declared.Table.{Table}
 use Rattle.rows.specs.declared.Table.the-variants.{Context, Mapping, Access, View}
 use Rattle.rows.specs.Fields.{faults, span}
-use Rattle.rows.specs.Rows.{keyFields, rowFields, limit, contextOf, mappingOf, accessOf, viewOf}
+use Rattle.rows.specs.Rows.{keyFields, rowFields, limit, contextOf, mappingOf, accessOf, viewOf, indexOf}
 use Rattle.rows.specs.Tables.{Tables}
 use Rattle.rows.proofs.Inverse.{span-whole}
 use Rattle.big_endian.specs.BigEndian.{Octets}
-use Rattle.image_judge.specs.Faults.{indexOf}
 use Rattle.table_update.specs.Exchange.{oneIf, rowsBefore, isHeld, exchanged, exchangedIn}
 use Rattle.table_update.specs.Tables.{rowAt, putRow, removeRow}
 use Rattle.table_update.proofs.Keys.{KeyOf, Whole, key-of-row, key-of-key}

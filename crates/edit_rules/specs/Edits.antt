@@ -11,7 +11,7 @@ use Rattle.answers.specs.declared.Fault.the-variants.{TableFull, RowAbsent, Sto
 use Rattle.rows.specs.declared.Table.{Table}
 use Rattle.rows.specs.declared.Table.the-variants.{Context, Mapping, Access, View}
 use Rattle.rows.specs.Fields.{Field, faults, values, index, within}
-use Rattle.rows.specs.Rows.{keyFields, rowFields, limit, modelMax}
+use Rattle.rows.specs.Rows.{keyFields, rowFields, limit, modelMax, indexOf}
 use Rattle.rows.specs.Tables.{Tables}
 use Rattle.lists.specs.Lists.{isNone}
 use Rattle.decision_steps.specs.Request.{asked}
@@ -40,7 +40,7 @@ handed (remove t key) = key
 
 -- the index of the row that an edit is of
 unfoldable pub indexOfEdit : Edit → List ℕ
-indexOfEdit e = index (keyFields (tableOf e)) (values (keyFields (tableOf e)) (handed e))
+indexOfEdit e = indexOf (tableOf e) (handed e)
 
 -- whole bytes, each field in range
 unfoldable pub legalEdit : Edit → Bool

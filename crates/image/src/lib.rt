@@ -2,6 +2,10 @@
 use answers::Fault;
 use image_judge::Surveyed;
 use image_layout::HEADER;
+use rows::MOST_ACCESSES;
+use rows::MOST_CONTEXTS;
+use rows::MOST_MAPPINGS;
+use rows::MOST_VIEWS;
 ghost use mathlib.Core.Path.{_≡_};
 ghost use Rattle.image_layout.specs.Layout.{layoutOf, withinLimits};
 ghost use Rattle.image_judge.specs.Faults.{surveyed};
@@ -10,15 +14,6 @@ ghost use Rattle.image.specs.Store.{storeFault, soundly};
 
 // The bytes of a store: those of the largest image.
 pub const ROOM: usize = 46456;
-
-// How many rows each table holds at most.
-pub const MOST_CONTEXTS: usize = 16;
-
-pub const MOST_MAPPINGS: usize = 64;
-
-pub const MOST_ACCESSES: usize = 64;
-
-pub const MOST_VIEWS: usize = 96;
 
 fn limited(c: usize, m: usize, a: usize, v: usize) -> bool
     ensures { λ r. ⌜ r ≡ withinLimits c m a v ⌝ }

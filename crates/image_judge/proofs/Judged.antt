@@ -14,7 +14,7 @@ use Rattle.answers.specs.declared.Fault.the-variants.{NotAscending}
 use Rattle.lists.specs.Order.{before}
 use Rattle.rows.specs.declared.Table.{Table}
 use Rattle.rows.specs.Fields.{faults, span}
-use Rattle.rows.specs.Rows.{keyFields, rowFields}
+use Rattle.rows.specs.Rows.{keyFields, rowFields, indexOf}
 use Rattle.rows.specs.Steps.{reached, rowStep}
 use Rattle.rows.specs.declared.Step.{Step}
 use Rattle.rows.specs.declared.Step.the-variants.{At}
@@ -22,7 +22,7 @@ use Rattle.big_endian.specs.BigEndian.{Octets}
 use Rattle.big_endian.proofs.BigEndian.{octets-drop, octets-take}
 use Rattle.image_layout.specs.declared.Extent.{Extent}
 use Rattle.image_layout.specs.Layout.{pair, rowsIn, endOf}
-use Rattle.image_judge.specs.Faults.{indexOf, tableFault}
+use Rattle.image_judge.specs.Faults.{tableFault}
 use Rattle.image_layout.proofs.Walks.{piece, piece-nil, piece-add, rest, Walk, rest-next, rest-end, walk-end}
 use Rattle.image_judge.proofs.Keys.{Stands, stands-nil, stands-row, key-room, key-above-nil}
 use Rattle.image_judge.proofs.Sound.{reached-at, reached-bad, fault-nil, fault-row, fault-order, fault-rest}

@@ -16,10 +16,10 @@ use Rattle.rows.specs.declared.Step.{Step}
 use Rattle.rows.specs.declared.Step.the-variants.{At}
 use Rattle.rows.specs.declared.Table.{Table}
 use Rattle.rows.specs.Fields.{faults, orElse}
-use Rattle.rows.specs.Rows.{rowFields}
+use Rattle.rows.specs.Rows.{rowFields, indexOf}
 use Rattle.rows.specs.Steps.{reached}
 use Rattle.rows.proofs.Sound.{cond-none}
-use Rattle.image_judge.specs.Faults.{indexOf, tableFault}
+use Rattle.image_judge.specs.Faults.{tableFault}
 
 -- ---- answers read back
 

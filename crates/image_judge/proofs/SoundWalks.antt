@@ -7,10 +7,10 @@ use Prim.Native.Nat.{ℕ, _+_, _≤_, _<_}
 use lib.ListN.{length, drop}
 use Rattle.rows.specs.declared.Table.{Table}
 use Rattle.rows.specs.Fields.{faults}
-use Rattle.rows.specs.Rows.{rowFields}
+use Rattle.rows.specs.Rows.{rowFields, indexOf}
 use Rattle.image_layout.specs.declared.Extent.{Extent}
 use Rattle.image_layout.specs.Layout.{pair, Inside}
-use Rattle.image_judge.specs.Faults.{indexOf, tableFault, SoundTable}
+use Rattle.image_judge.specs.Faults.{tableFault, SoundTable}
 use Rattle.image_layout.proofs.Walks.{piece, rest, Walk, walk-start, walk-length, rest-slice, walk-next, walk-row}
 use Rattle.image_judge.proofs.Sound.{whole-first, sound-rest}
 

@@ -12,18 +12,14 @@ use Rattle.rows.specs.declared.Step.{Step}
 use Rattle.rows.specs.declared.Step.the-variants.{At}
 use Rattle.rows.specs.declared.Table.{Table}
 use Rattle.rows.specs.declared.Table.the-variants.{Context, Mapping, Access, View}
-use Rattle.rows.specs.Fields.{faults, values, index, orElse}
-use Rattle.rows.specs.Rows.{keyFields, rowFields, contextOf, mappingOf, accessOf, viewOf}
+use Rattle.rows.specs.Fields.{faults, orElse}
+use Rattle.rows.specs.Rows.{rowFields, indexOf, contextOf, mappingOf, accessOf, viewOf}
 use Rattle.rows.specs.Tables.{Tables}
 use Rattle.image_layout.specs.declared.Extent.{Extent}
 use Rattle.image_layout.specs.declared.Layout.{Layout}
 use Rattle.image_layout.specs.Layout.{Inside, rowsIn, layoutOf}
 use Rattle.image_judge.specs.declared.Surveyed.{Surveyed}
 use Rattle.image_judge.specs.declared.Surveyed.the-variants.{Laid, Bad}
-
--- the index of the row of table t that bytes hold
-abbrev pub indexOf : Table → List ℕ → List ℕ
-indexOf t r = index (keyFields t) (values (keyFields t) r)
 
 -- rows of one table, one after the other: each whole and legal, its index above that of the row before it
 unfoldable pub tableFault : Table → List ℕ → List (List ℕ) → Option Fault

@@ -4,7 +4,7 @@
 use mathlib.Core.Path.{_≡_, refl, ap, _∙_}
 use mathlib.Core.Bool.{true, false}
 use mathlib.Core.List.{List, _∷_, _++_}
-use mathlib.Core.Option.{Option, none, some}
+use mathlib.Core.Option.{Option, none, some, bind}
 use Prim.Native.Nat.{ℕ, _+_, _-_, _≤_, _<_}
 use native.Mathlib.Nat.{sub-zero, zero-add}
 use native.Mathlib.Numerals.{add-one}
@@ -30,12 +30,14 @@ use Rattle.instance_fields.proofs.Way.{Took}
 
 module _ (t : Table) (column : ℕ) (index found : List ℕ) where
   pub index-unread : parseFields (keyFields t) index ≡ none → Delivers (readIndex t column index) found found (Faulty NotAnInstance)
+  unfolding bind
   index-unread e = rw e (record { answer-is = refl; buffer-is = refl })
 
   -- read from the start into a buffer of its own
   module _ {zeros made : List ℕ} {end : Cursor}
       (k : Took (rowBytes (keyFields t)) (parseFields (keyFields t) index) index zeros made (record { part = 0; byte = 0 }) end) where
     pub index-over : end .part < length index → Delivers (readIndex t column index) found found (Faulty NotAnInstance)
+    unfolding bind
     index-over h =
         let n : eqb (length (k .it .rest)) 0 ≡ false =
         ne-eqb (length (k .it .rest)) 0 (λ z. omega (arith, ap length (k .rest-is), length-drop (end .part) index)) in
@@ -62,7 +64,7 @@ module _ (t : Table) (column : ℕ) (index found : List ℕ) where
     pub index-whole : length index ≤ end .part → (after : List ℕ)
         → after ≡ paste found 0 (take (end .byte - 0) made) (length (take (end .byte - 0) made))
         → Delivers (readIndex t column index) found after (Instance t column (end .byte))
-    unfolding key
+    unfolding key bind
     index-whole h after c =
         let e : eqb (length (k .it .rest)) 0 ≡ true =
         eq-eqb (length (k .it .rest)) 0 (omega (arith, ap length (k .rest-is), length-drop (end .part) index)) in
@@ -85,12 +87,12 @@ found-nowhere (some u) e = cc
 
 module _ (oid found : List ℕ) where
   pub no-table : tableOf oid ≡ none → Delivers (readInstance oid) found found (Faulty NotAnInstance)
-  unfolding readInstance
+  unfolding readInstance bind
   no-table e = rw e (record { answer-is = refl; buffer-is = refl })
 
   module _ {t : Table} (e : tableOf oid ≡ some t) (n : ℕ) (l : n ≡ length (base t)) where
     column-read : readInstance oid ≡ readColumn t (drop n oid)
-    unfolding readInstance
+    unfolding readInstance bind
     column-read = rw (e, l)
 
     pub no-column : length oid ≤ n → Delivers (readInstance oid) found found (Faulty NotAnInstance)

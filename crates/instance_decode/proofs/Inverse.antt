@@ -5,7 +5,7 @@
 use mathlib.Core.Path.{_≡_, refl, sym, ap, _∙_}
 use mathlib.Core.Bool.{true, _&&_}
 use mathlib.Core.List.{List, [], _∷_, _++_}
-use mathlib.Core.Option.{Option, none, some, Option·none-ne-some}
+use mathlib.Core.Option.{Option, none, some, Option·none-ne-some, bind}
 use Prim.Native.Nat.{ℕ, _+_, _≤_}
 use native.Mathlib.Omega.{arith}
 use lib.ListN.{length, take, drop, take-append-drop}
@@ -43,7 +43,7 @@ table-of-base Access v = refl
 table-of-base View v = refl
 
 pub reads-written : (t : Table) (column : ℕ) (key : List ℕ) → Octets key → Encodable t column key → ReadsWritten t column key
-unfolding readInstance readColumn indexOf
+unfolding readInstance readColumn bind
 reads-written t column key b e =
     let ks = keyFields t in
     let xs = values ks key in (
@@ -69,7 +69,6 @@ table-based oid {t} e =
 
 index-written : (t : Table) (column : ℕ) (v : List ℕ) (d : Reading) → lists t column ≡ true → readIndex t column v ≡ some d
     → WritesRead (instance t column v) d
-unfolding indexOf
 index-written t column v d l e =
     let ks = keyFields t in
     let a = map-some (λ xs. record { table = t; column = column; fields = xs }) (parseIndex ks v) e in
@@ -88,7 +87,7 @@ column-written t (c ∷ v) d e =
     index-written t c v d (p .0) (p .1)
 
 pub writes-read : (oid : List ℕ) (d : Reading) → readInstance oid ≡ some d → WritesRead oid d
-unfolding readInstance
+unfolding readInstance bind
 writes-read oid d e =
     let a = then-some (tableOf oid) (λ t. readColumn t (drop (length (base t)) oid)) e in
     let t = a .0 in

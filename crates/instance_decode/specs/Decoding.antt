@@ -2,7 +2,7 @@
 use mathlib.Core.Path.{_≡_}
 use mathlib.Core.Bool.{cond}
 use mathlib.Core.List.{List, [], _∷_, _++_}
-use mathlib.Core.Option.{Option, none, some, Option·map}
+use mathlib.Core.Option.{Option, none, some, Option·map, bind}
 use Prim.Native.Nat.{ℕ}
 use lib.ListN.{length, drop}
 use Rattle.lists.specs.Lists.{find}
@@ -12,7 +12,7 @@ use Rattle.rows.specs.declared.Table.{Table}
 use Rattle.rows.specs.declared.Table.the-variants.{Context, Mapping, Access, View}
 use Rattle.rows.specs.Fields.{rowBytes}
 use Rattle.rows.specs.Rows.{keyFields}
-use Rattle.instance_fields.specs.Indices.{andThen, parseIndex}
+use Rattle.instance_fields.specs.Indices.{parseIndex}
 use Rattle.instance_decode.specs.declared.Found.{Found}
 use Rattle.instance_decode.specs.declared.Found.the-variants.{In, Nowhere}
 use Rattle.instance_decode.specs.declared.Decoded.{Decoded}
@@ -39,7 +39,7 @@ unfoldable pub tableOf : List ℕ → Option Table
 tableOf oid = find (λ t. begins (base t) oid) (Context ∷ Mapping ∷ Access ∷ View ∷ [])
 
 unfoldable pub readInstance : List ℕ → Option Reading
-readInstance oid = andThen (tableOf oid) (λ t. readColumn t (drop (length (base t)) oid))
+readInstance oid = bind (tableOf oid) (λ t. readColumn t (drop (length (base t)) oid))
 
 -- the table found, if any is
 abbrev pub foundIn : Option Table → Found

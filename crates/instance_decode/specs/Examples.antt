@@ -1,7 +1,7 @@
 -- Document 01's example P10: the status of ann's mapping. Assumes nothing.
 use mathlib.Core.Path.{_≡_, refl}
 use mathlib.Core.List.{List, [], _∷_}
-use mathlib.Core.Option.{some}
+use mathlib.Core.Option.{some, bind}
 use Prim.Native.Nat.{ℕ}
 use Rattle.lists.specs.Order.{begins}
 use Rattle.rows.specs.declared.Table.the-variants.{Mapping}
@@ -20,9 +20,9 @@ abbrev pub annStatus : List ℕ
 annStatus = 1 ∷ 3 ∷ 6 ∷ 1 ∷ 6 ∷ 3 ∷ 16 ∷ 1 ∷ 2 ∷ 1 ∷ 5 ∷ 3 ∷ 3 ∷ 97 ∷ 110 ∷ 110 ∷ []
 
 pub p10-encoded : instance Mapping (statusColumn Mapping) (indexOf Mapping annKey) ≡ annStatus
-unfolding indexOf keyFields
+unfolding keyFields
 p10-encoded = refl
 
 pub p10-decoded : readInstance annStatus ≡ some (readingOf Mapping 5 annKey)
-unfolding begins keyFields parseField parseFields readColumn tableOf readInstance
+unfolding begins keyFields parseField parseFields readColumn tableOf readInstance bind
 p10-decoded = refl

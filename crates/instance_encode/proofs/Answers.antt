@@ -60,7 +60,6 @@ key-parts View = omega arith
 
 pub instance-short : (t : Table) (column : ℕ) (key : List ℕ) → faults (keyFields t) key ≡ none
     → length (instance t column (indexOf t key)) ≤ 110
-unfolding indexOf
 instance-short t column key h =
     omega (arith, instance-length t column (indexOf t key), index-parts (keyFields t) key h, key-parts t)
 

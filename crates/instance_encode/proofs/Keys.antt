@@ -57,11 +57,11 @@ pub record Runs (t : Table) (key : List ℕ) : Type 0 where
   pub index-is : indexOf t key ≡ runs (quadsFrom t key) (quadsIn t key) key
 
 context-runs : (key : List ℕ) → faults (keyFields Context) key ≡ none → Runs Context key
-unfolding indexOf keyFields
+unfolding keyFields
 context-runs key h = record { room = omega arith; index-is = last-name 0 32 key h }
 
 mapping-runs : (key : List ℕ) → faults (keyFields Mapping) key ≡ none → Runs Mapping key
-unfolding indexOf keyFields
+unfolding keyFields
 mapping-runs key h =
     let k = integer quad 1 mostModel in
     let ks = name 1 32 ∷ [] in
@@ -114,7 +114,7 @@ module _ (v : List ℕ) (h : faults (keyFields Access) v ≡ none) where
   behind-names = rw (← drop-drop prefix group v) (faults-rest (name 0 32) modelAndLevel (drop group v) behind-group)
 
   names-index : indexOf Access v ≡ take (group + prefix) v ++ index modelAndLevel (values modelAndLevel (drop (group + prefix) v))
-  unfolding group prefix indexOf keyFields
+  unfolding group prefix keyFields
   names-index =
       front-name 1 32 (name 0 32 ∷ modelAndLevel) v h
       ∙ ap (λ u. take group v ++ u) (front-name 0 32 modelAndLevel (drop group v) behind-group)
@@ -176,7 +176,7 @@ module _ (v : List ℕ) (h : faults (keyFields View) v ≡ none) where
   view-room = omega (arith, view-length, family-end)
 
   view-index : indexOf View v ≡ runs (family + 1) counted v
-  unfolding family counted indexOf keyFields
+  unfolding family counted keyFields
   view-index =
       front-name 1 32 (subtree ∷ []) v h
       ∙ ap (λ u. take family v ++ u) (subtree-index (drop family v) behind-family)

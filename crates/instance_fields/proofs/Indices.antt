@@ -4,7 +4,7 @@
 use mathlib.Core.Path.{_≡_, refl, sym, ap, _∙_}
 use mathlib.Core.Bool.{Bool, true, false, cond}
 use mathlib.Core.List.{List, [], _∷_, _++_, append-assoc, append-nil}
-use mathlib.Core.Option.{Option, none, some, Option·map, Option·some-injective, Option·none-ne-some}
+use mathlib.Core.Option.{Option, none, some, Option·map, Option·some-injective, Option·none-ne-some, bind}
 use Prim.Native.Nat.{ℕ}
 use native.Mathlib.Omega.{arith}
 use lib.ListN.{length, take, drop, length-append, take-append-drop}
@@ -14,7 +14,7 @@ use borrow.Author.Tests.{leb-true, le-leb, eqb-true}
 use Rattle.lists.proofs.Bools.{clash, and-both}
 use Rattle.rows.specs.Fields.{Field, sequence, integer, legal, legals, indexField, index}
 use Rattle.rows.proofs.Inverse.{legals-first, legals-rest, legals-no-values, legals-no-fields}
-use Rattle.instance_fields.specs.Indices.{andThen, Parsed, checked, parseField, led, parseFields, ended, parseIndex}
+use Rattle.instance_fields.specs.Indices.{Parsed, checked, parseField, led, parseFields, ended, parseIndex}
 
 -- a test that was passed
 pub cond-some : {A : Type 0} (b : Bool) (o : Option A) (p : A) → cond b o none ≡ some p → (b ≡ true) × (o ≡ some p)
@@ -59,7 +59,8 @@ made (integer w lo hi) (x ∷ y ∷ ys) r h = clash h refl
 -- ---- fields in order
 
 -- a step that was made, and what it was made on
-pub then-some : {A B : Type 0} (o : Option A) (f : A → Option B) {y : B} → andThen o f ≡ some y → (x : A) × ((o ≡ some x) × (f x ≡ some y))
+pub then-some : {A B : Type 0} (o : Option A) (f : A → Option B) {y : B} → bind o f ≡ some y → (x : A) × ((o ≡ some x) × (f x ≡ some y))
+unfolding bind
 then-some none f {y} e = absurd (Option·none-ne-some y e)
 then-some (some x) f e = (x, (refl, e))
 
@@ -72,7 +73,7 @@ pub record ParsedAll (ks : List Field) (v : List ℕ) (xs : List (List ℕ)) (re
   pub whole : v ≡ index ks xs ++ rest
 
 parsed-all : (ks : List Field) (v : List ℕ) (p : Parsed (List (List ℕ))) → parseFields ks v ≡ some p → ParsedAll ks v (p .holds) (p .rest)
-unfolding parseFields legals
+unfolding parseFields legals bind
 parsed-all [] v p e =
     let z : record { holds = []; rest = v } ≡ p = Option·some-injective (record { holds = []; rest = v }) p e in
     rw (← z) (record { lawful = refl; whole = refl })
@@ -90,7 +91,7 @@ parsed-all (k ∷ ks) v p e =
 
 made-all : (ks : List Field) (xs : List (List ℕ)) (r : List ℕ) → legals ks xs ≡ true
     → parseFields ks (index ks xs ++ r) ≡ some (record { holds = xs; rest = r })
-unfolding parseFields
+unfolding parseFields bind
 made-all [] [] r h = refl
 made-all [] (x ∷ xs) r h = legals-no-fields x xs h
 made-all (k ∷ ks) [] r h = legals-no-values k ks h
@@ -115,6 +116,7 @@ index-parsed ks v xs e =
     rw (← z) (f .lawful, f .whole ∙ ap (λ u. index ks (p .holds) ++ u) n ∙ append-nil (index ks (p .holds)))
 
 pub index-made : (ks : List Field) (xs : List (List ℕ)) → legals ks xs ≡ true → parseIndex ks (index ks xs) ≡ some xs
+unfolding bind
 index-made ks xs h =
     let e : parseFields ks (index ks xs) ≡ some (record { holds = xs; rest = [] }) =
     ap (parseFields ks) (sym (append-nil (index ks xs))) ∙ made-all ks xs [] h in

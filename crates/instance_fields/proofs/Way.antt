@@ -3,7 +3,7 @@
 -- taken, neither are fields that begin with it. So what is left to be read decides what all are read as (`OnWay`). Assumes nothing.
 use mathlib.Core.Path.{_≡_, refl, sym, ap, _∙_}
 use mathlib.Core.List.{List, [], _∷_}
-use mathlib.Core.Option.{Option, none, some, Option·map}
+use mathlib.Core.Option.{Option, none, some, Option·map, bind}
 use Prim.Native.Nat.{ℕ, suc, _+_, _≤_, _<_}
 use native.Mathlib.Nat.{add-zero}
 use native.Mathlib.Numerals.{add-one}
@@ -56,12 +56,12 @@ module _ {A : Type 0} (bytes : A → List ℕ) (index found after : List ℕ) (a
 -- the first is not taken
 unread : (k : Field) (ks : List Field) (index found mid after : List ℕ) (at : Cursor) {r : Read} → ReadsField k index found mid at r → r ≡ Bad
     → ReadsFields (k ∷ ks) index found after at Bad
-unfolding parseFields
+unfolding parseFields bind
 unread k ks index found mid after at e b = rw (untaken (fieldBytes k) index found mid at (parseField k (drop (at .part) index)) e b) refl
 
 -- none is left
 nothing-left : (index found : List ℕ) (at : Cursor) → ReadsFields [] index found found at (Next at)
-unfolding parseFields
+unfolding parseFields bind
 nothing-left index found at = record {
   next = at;
   answer-is = refl;
@@ -102,7 +102,7 @@ module _ (k : Field) (index found mid : List ℕ) (at a : Cursor)
       }
 
   joined : (ks : List Field) (after : List ℕ) (r : Read) → ReadsFields ks index mid after a r → ReadsFields (k ∷ ks) index found after at r
-  unfolding parseFields
+  unfolding parseFields bind
   joined ks after r e = rw (t .is, t .rest-is) (join ks after r (parseFields ks (drop (a .part) index)) e)
 
 -- ---- on the way through the fields of a key

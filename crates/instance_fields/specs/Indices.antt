@@ -1,15 +1,11 @@
 -- An index read: the inverse of the index made of a key's fields (document 01, "index"). Assumes nothing.
 use mathlib.Core.Bool.{cond}
 use mathlib.Core.List.{List, [], _∷_}
-use mathlib.Core.Option.{Option, none, some, Option·map}
+use mathlib.Core.Option.{Option, none, some, bind, Option·map}
 use Prim.Native.Nat.{ℕ}
 use lib.Dec.{leb, eqb}
 use lib.ListN.{length, take, drop}
 use Rattle.rows.specs.Fields.{Field, sequence, integer, legal}
-
-abbrev pub andThen : {A B : Type 0} → Option A → (A → Option B) → Option B
-andThen none f = none
-andThen (some x) f = f x
 
 -- ---- an index: its fields in order, and nothing over
 
@@ -34,10 +30,10 @@ led x p = record { holds = x ∷ p .holds; rest = p .rest }
 
 unfoldable pub parseFields : List Field → List ℕ → Option (Parsed (List (List ℕ)))
 parseFields [] v = some (record { holds = []; rest = v })
-parseFields (k ∷ ks) v = andThen (parseField k v) (λ p. Option·map (led (p .holds)) (parseFields ks (p .rest)))
+parseFields (k ∷ ks) v = bind (parseField k v) (λ p. Option·map (led (p .holds)) (parseFields ks (p .rest)))
 
 abbrev pub ended : Parsed (List (List ℕ)) → Option (List (List ℕ))
 ended p = cond (eqb (length (p .rest)) 0) (some (p .holds)) none
 
 abbrev pub parseIndex : List Field → List ℕ → Option (List (List ℕ))
-parseIndex ks v = andThen (parseFields ks v) ended
+parseIndex ks v = bind (parseFields ks v) ended

@@ -111,7 +111,7 @@ rowFields Access = accessKey ++ accessRest
 rowFields View = viewKey ++ viewRest
 
 -- the index of the row or the key that bytes hold: its key fields as sub-identifiers
-unfoldable pub indexOf : Table → List ℕ → List ℕ
+abbrev pub indexOf : Table → List ℕ → List ℕ
 indexOf t v = index (keyFields t) (values (keyFields t) v)
 
 -- the most rows of a table

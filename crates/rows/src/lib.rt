@@ -63,15 +63,24 @@ pub const ROW_MAX: usize = 310;
 
 pub const KEY_MAX: usize = 290;
 
+// How many rows each table holds at most.
+pub const MOST_CONTEXTS: usize = 16;
+
+pub const MOST_MAPPINGS: usize = 64;
+
+pub const MOST_ACCESSES: usize = 64;
+
+pub const MOST_VIEWS: usize = 96;
+
 // The most rows of a table.
 pub fn limit(t: Table) -> usize
     ensures { λ r. ⌜ r ≡ limit t ⌝ }
 {
     match t {
-        Table::Context => 16,
-        Table::Mapping => 64,
-        Table::Access => 64,
-        Table::View => 96,
+        Table::Context => MOST_CONTEXTS,
+        Table::Mapping => MOST_MAPPINGS,
+        Table::Access => MOST_ACCESSES,
+        Table::View => MOST_VIEWS,
     }
 }
 

@@ -16,9 +16,9 @@ use Rattle.lists.proofs.Orders.{before-trans}
 use Rattle.rows.specs.declared.Table.{Table}
 use Rattle.rows.specs.declared.Table.the-variants.{Context, Mapping, Access, View}
 use Rattle.rows.specs.Fields.{faults}
-use Rattle.rows.specs.Rows.{keyFields, rowFields}
+use Rattle.rows.specs.Rows.{keyFields, rowFields, indexOf}
 use Rattle.rows.proofs.Bounds.{longestRow, row-bounded}
-use Rattle.image_judge.specs.Faults.{indexOf, tableFault}
+use Rattle.image_judge.specs.Faults.{tableFault}
 use Rattle.image_judge.proofs.Sound.{fault-nil, fault-rest, whole-first, before-first, sound-rest}
 use Rattle.table_update.specs.Exchange.{oneIf, front, rowsBefore, isHeld, exchanged}
 use Rattle.table_update.proofs.Written.{concatenated, concatenated-append}

@@ -14,7 +14,7 @@ use Rattle.lists.proofs.Bools.{split, test-ext, and-left}
 use Rattle.lists.proofs.Orders.{same-true, same-eq, before-total}
 use Rattle.rows.specs.declared.Table.{Table}
 use Rattle.rows.specs.Fields.{Field, faults, span, values, index}
-use Rattle.rows.specs.Rows.{keyFields, rowFields, restFields}
+use Rattle.rows.specs.Rows.{keyFields, rowFields, restFields, indexOf}
 use Rattle.rows.proofs.Appends.{row-split}
 use Rattle.big_endian.specs.BigEndian.{Octets}
 use Rattle.big_endian.proofs.BigEndian.{octets-drop, octets-take}
@@ -22,7 +22,7 @@ use Rattle.rows.proofs.Inverse.{bytes-front, legals-front, bytes-again, legals-
 use Rattle.rows.proofs.Order.{Compares, compares-row, compares-same, compares-keys}
 use Rattle.image_layout.specs.declared.Extent.{Extent}
 use Rattle.image_layout.specs.Layout.{cut, lengthsIn, rowsIn}
-use Rattle.image_judge.specs.Faults.{indexOf, tableFault}
+use Rattle.image_judge.specs.Faults.{tableFault}
 use Rattle.image_judge.proofs.Sound.{whole-first, sound-rest}
 use Rattle.table_update.specs.Exchange.{front}
 

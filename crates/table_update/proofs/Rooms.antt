@@ -13,11 +13,11 @@ use lib.ListN.{length, take, drop, length-append}
 use Rattle.rows.specs.declared.Table.{Table}
 use Rattle.rows.specs.declared.Table.the-variants.{Context, Mapping, Access, View}
 use Rattle.rows.specs.Fields.{faults}
-use Rattle.rows.specs.Rows.{rowFields, limit}
+use Rattle.rows.specs.Rows.{rowFields, limit, indexOf}
 use Rattle.rows.proofs.Bounds.{longestRow, row-bounded}
 use Rattle.big_endian.specs.BigEndian.{Octets}
 use Rattle.image_layout.specs.Layout.{pairs, total, endOf, count, layoutOf, laidOut}
-use Rattle.image_judge.specs.Faults.{tableFault, indexOf}
+use Rattle.image_judge.specs.Faults.{tableFault}
 use Rattle.image.specs.Store.{room, isSound}
 use Rattle.image_layout.proofs.Layouts.{total-pairs}
 use Rattle.table_update.specs.Exchange.{extentOf, tableRows, oneIf, rowsBefore, isHeld, imageEnd, ImageIn, Sought, exchanged}

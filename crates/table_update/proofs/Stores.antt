@@ -17,11 +17,11 @@ use Rattle.lists.proofs.Greatest.{Ascends}
 use Rattle.rows.specs.declared.Table.{Table}
 use Rattle.rows.specs.declared.Table.the-variants.{Context, Mapping, Access, View}
 use Rattle.rows.specs.Fields.{faults, span}
-use Rattle.rows.specs.Rows.{keyFields, rowFields, limit}
+use Rattle.rows.specs.Rows.{keyFields, rowFields, limit, indexOf}
 use Rattle.big_endian.specs.BigEndian.{Octets}
 use Rattle.image_layout.specs.declared.Extent.{Extent}
 use Rattle.image_layout.specs.Layout.{Inside, rowsIn, count, withinLimits, layoutOf, laidOut}
-use Rattle.image_judge.specs.Faults.{tableFault, rowsFault, indexOf}
+use Rattle.image_judge.specs.Faults.{tableFault, rowsFault}
 use Rattle.image.specs.Store.{room, soundRows, isSound}
 use Rattle.image_judge.proofs.Keys.{stands-nil}
 use Rattle.image_judge.proofs.Sound.{ascends-rows}

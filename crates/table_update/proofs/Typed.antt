@@ -17,9 +17,8 @@ use Rattle.rows.specs.declared.Table.{Table}
 use Rattle.rows.specs.declared.Table.the-variants.{Context, Mapping, Access, View}
 use Rattle.rows.specs.Fields.{faults, index}
 use Rattle.rows.specs.Rows.{keyFields, rowFields, contextKey, contextFields, contextOf, mappingKey, mappingFields, mappingOf, accessKey, accessFields}
-use Rattle.rows.specs.Rows.{accessOf, viewKey, viewFields, viewOf}
+use Rattle.rows.specs.Rows.{accessOf, viewKey, viewFields, viewOf, indexOf}
 use Rattle.big_endian.specs.BigEndian.{Octets}
-use Rattle.image_judge.specs.Faults.{indexOf}
 use Rattle.table_update.specs.Exchange.{oneIf, rowsBefore, isHeld, exchanged}
 use Rattle.table_update.specs.Tables.{rowAt, putRow, removeRow}
 use Rattle.table_update.proofs.Keys.{KeyOf, Stand, lower, equal, upper, stands, Whole}

@@ -18,6 +18,7 @@ pub struct Place {
     pub present: bool,
 }
 
+// Where the rows of a table lie.
 pub fn extent_of(l: Layout, t: Table) -> Extent
     ensures { λ r. ⌜ r ≡ extentOf t l ⌝ }
 {
@@ -40,6 +41,7 @@ fn against(row: &[u8], key: &[u8]) -> Order
     octets::compare(&row[0..n], key)
 }
 
+// The place of a key among the rows of a table.
 pub fn seek(w: &[u8], x: Extent, key: &[u8]) -> Place
     requires { ⌜ Inside (now w) x ⌝ }
     ensures { λ r. ⌜ Sought (now (w .entry)) x (now (key .entry)) r ⌝ }
