@@ -24,13 +24,13 @@ use Rattle.rows.proofs.Appends.{row-split}
 use Rattle.rows.proofs.Inverse.{bytes-front, legals-front, faults-made, values-made}
 use Rattle.big_endian.proofs.BigEndian.{length-numbers}
 use Rattle.rows.proofs.Sound.{within-most, sequence-range, faults-first, faults-rest}
-use Rattle.decision_steps.specs.Request.{asked}
+use Rattle.decision_steps.specs.Request.{asked, write}
 use Rattle.decision_steps.specs.Decision.{decision}
 use Rattle.table_update.proofs.Stores.{rowKey}
 use Rattle.instance_encode.specs.Instances.{instance, statusColumn, encodeFault, written, Encodes}
 use Rattle.edit_rules.specs.declared.Change.{Change}
 use Rattle.edit_rules.specs.declared.Change.the-variants.{Put, Remove}
-use Rattle.edit_rules.specs.Edits.{Caller, put, remove, editOf, fieldsOf, indexOfEdit, write, judgement}
+use Rattle.edit_rules.specs.Edits.{Caller, put, remove, editOf, fieldsOf, indexOfEdit, judgement}
 use Rattle.edit_rules.proofs.Outcomes.{key-whole}
 
 -- ---- the key at the front of what is handed

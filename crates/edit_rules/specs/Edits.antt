@@ -14,7 +14,7 @@ use Rattle.rows.specs.Fields.{Field, faults, values, index, within}
 use Rattle.rows.specs.Rows.{keyFields, rowFields, limit, modelMax, indexOf}
 use Rattle.rows.specs.Tables.{Tables}
 use Rattle.lists.specs.Lists.{isNone}
-use Rattle.decision_steps.specs.Request.{asked}
+use Rattle.decision_steps.specs.Request.{asked, longestName, noAuthNoPriv, authPriv, write}
 use Rattle.decision_steps.specs.Decision.{decision}
 use Rattle.edit_rules.specs.declared.Change.{Change}
 use Rattle.edit_rules.specs.declared.Change.the-variants.{Put, Remove}
@@ -121,11 +121,7 @@ abbrev pub callerOf : ℕ → List ℕ → ℕ → Caller
 callerOf model name level = record { securityModel = model; securityName = name; securityLevel = level }
 
 unfoldable pub legalCaller : Caller → Bool
-legalCaller c = within 1 modelMax (c .securityModel) && within 1 32 (length (c .securityName)) && within 1 3 (c .securityLevel)
-
--- RFC 3415's viewType of a write request
-abbrev pub write : ℕ
-write = 2
+legalCaller c = within 1 modelMax (c .securityModel) && within 1 longestName (length (c .securityName)) && within noAuthNoPriv authPriv (c .securityLevel)
 
 -- a principal's edit is judged as a write request in the empty context at the row's status instance
 unfoldable pub judgement : Tables → Caller → Edit → Decision
