@@ -1,6 +1,7 @@
 // The calls on a store under C names, for the benchmark to measure beside another implementation. An agent in C links the crate `dugwalen`.
 use answers::Written;
 use image::ROOM;
+use rows::Operation;
 use rows::Table;
 ghost use mathlib.Core.Path.{_≡_};
 ghost use Rattle.answers.specs.Numbers.{answerNumber};
@@ -66,7 +67,7 @@ pub extern "C" fn bench_decide(
 pub extern "C" fn bench_owner_put(store: &mut [u8], table: u32, row: &[u8]) -> u32
     ensures { λ r. ⌜ Numbered editedNumber (OwnerEdits (put (tableNumbered table) (now (row .entry))) (now (store .entry)) (now (store .exit))) r ⌝ }
 {
-    edits::edited_number(edits::owner_put(store, table_numbered(table), row))
+    edits::edited_number(edits::owner_edit(store, Operation::Put, table_numbered(table), row))
 }
 
 // The owner's removal, by its number.
@@ -74,7 +75,7 @@ pub extern "C" fn bench_owner_put(store: &mut [u8], table: u32, row: &[u8]) -> u
 pub extern "C" fn bench_owner_remove(store: &mut [u8], table: u32, key: &[u8]) -> u32
     ensures { λ r. ⌜ Numbered editedNumber (OwnerEdits (remove (tableNumbered table) (now (key .entry))) (now (store .entry)) (now (store .exit))) r ⌝ }
 {
-    edits::edited_number(edits::owner_remove(store, table_numbered(table), key))
+    edits::edited_number(edits::owner_edit(store, Operation::Remove, table_numbered(table), key))
 }
 
 // An image read into a store, by its number.

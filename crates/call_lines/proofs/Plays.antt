@@ -23,8 +23,9 @@ use Rattle.edits.specs.Calls.{editedNumber}
 use Rattle.text_values.specs.Texts.{decimalText}
 use Rattle.call_words.specs.declared.By.{By}
 use Rattle.call_words.specs.declared.Said.{Said}
-use Rattle.call_words.specs.declared.Subject.{Subject}
-use Rattle.call_words.specs.Calls.{Call, decides, encodes, decodes, images, editOf}
+use Rattle.rows.specs.declared.Operation.{Operation}
+use Rattle.edit_rules.specs.Edits.{editOf}
+use Rattle.call_words.specs.Calls.{Call, decides, encodes, decodes, images}
 use Rattle.call_words.specs.Reading.{requestIn, byCall, Inside}
 use Rattle.call_answers.specs.Answers.{parts, faultText, encodedText, decodedText, imageTextOf, Shows}
 use Rattle.call_lines.specs.Plays.{Tells, EditTells, Plays, EditsBy, ShowsPlay}
@@ -94,7 +95,7 @@ module _ {found out : List ℕ} {r : ℕ} where
   plays-decode-part n oid s =
       plays-decode (take n oid) (subst (λ v. Shows (decodedText (readInstance v)) out r) (part-is n oid) s)
 
-  pub plays-edit-part : (by : By) (n : ℕ) (name : List ℕ) (s : Subject) (t : Table) (k : ℕ) (bytes : List ℕ) {after : List ℕ} (edited : Edited)
+  pub plays-edit-part : (by : By) (n : ℕ) (name : List ℕ) (s : Operation) (t : Table) (k : ℕ) (bytes : List ℕ) {after : List ℕ} (edited : Edited)
       → EditsBy by (take (n - 0) name) (editOf s t (take (k - 0) bytes)) found after edited
       → Shows (decimalText (editedNumber edited)) out r
       → ShowsPlay (some (byCall by (take n name) (editOf s t (take k bytes)))) found after out r

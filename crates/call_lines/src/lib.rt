@@ -2,9 +2,9 @@
 use answers::Fault;
 use call_words::By;
 use call_words::Said;
-use call_words::Subject;
 use edit_rules::Edited;
 use request_words::Fields;
+use rows::Operation;
 use rows::Table;
 ghost use mathlib.Core.Path.{_≡_};
 ghost use Prim.Native.Nat.{_≤_};
@@ -12,8 +12,9 @@ ghost use lib.ListN.{length};
 ghost use Rattle.answers.specs.Numbers.{answerNumber};
 ghost use Rattle.image.specs.Store.{held};
 ghost use Rattle.decision_steps.specs.Decision.{answer};
-ghost use Rattle.call_words.specs.Calls.{editOf, lineCall};
+ghost use Rattle.call_words.specs.Calls.{lineCall};
 ghost use Rattle.call_words.specs.Reading.{requestIn, RequestInside, saidCall, Inside};
+ghost use Rattle.edit_rules.specs.Edits.{editOf};
 ghost use Rattle.call_answers.specs.Answers.{faultText, Room, Shows};
 ghost use Rattle.call_lines.specs.Plays.{EditsBy, lineRoom, faultRoom, lineText, ShowsPlay, ShowsLine};
 
@@ -45,18 +46,20 @@ fn decide(store: &[u8], f: Fields, name: &[u8], context: &[u8], variable: &[u32]
 }
 
 // Puts a row or removes a key's, for the owner or for a principal of that name.
-fn edit(store: &mut [u8], by: By, name: &[u8], s: Subject, t: Table, bytes: &[u8]) -> Edited
+fn edit(store: &mut [u8], by: By, name: &[u8], s: Operation, t: Table, bytes: &[u8]) -> Edited
     ensures { λ r. ⌜ EditsBy by (now (name .entry)) (editOf s t (now (bytes .entry))) (now (store .entry)) (now (store .exit)) r ⌝ }
 {
     match by {
-        By::Owner => match s {
-            Subject::Row => edits::owner_put(store, t, bytes),
-            Subject::Key => edits::owner_remove(store, t, bytes),
-        },
-        By::Principal(model, level) => match s {
-            Subject::Row => edits::principal_put(store, model, name, level, t, bytes),
-            Subject::Key => edits::principal_remove(store, model, name, level, t, bytes),
-        },
+        By::Owner => edits::owner_edit(store, s, t, bytes),
+        By::Principal(model, level) => edits::principal_edit(
+            store,
+            model,
+            name,
+            level,
+            s,
+            t,
+            bytes,
+        ),
     }
 }
 

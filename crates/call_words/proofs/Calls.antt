@@ -22,8 +22,8 @@ use Rattle.request_words.proofs.Requests.{said-inside}
 use Rattle.text_words.proofs.NextWord.{none-behind, some-behind, word-cut, word-over}
 use Rattle.edit_rules.specs.Edits.{callerOf}
 use Rattle.call_words.specs.declared.Span.{Span}
-use Rattle.call_words.specs.declared.Subject.{Subject}
-use Rattle.call_words.specs.declared.Subject.the-variants.{Row, Key}
+use Rattle.rows.specs.declared.Operation.{Operation}
+use Rattle.rows.specs.declared.Operation.the-variants.{Put, Remove}
 use Rattle.call_words.specs.declared.Entered.{Entered}
 use Rattle.call_words.specs.declared.By.{By}
 use Rattle.call_words.specs.declared.Said.{Said}
@@ -73,7 +73,7 @@ module _ (by : By) (n : ℕ) {r : Entered} {bytes : List ℕ} (ws : List (List �
   edit-nothing q = λ name variable h.
       reads-nothing name bytes variable (ap (Option·map (λ e. byCall by (take n name) (edit e))) (entered-none i q))
 
-  pub edit-said : {s : Subject} {t : Table} {k : ℕ} → r ≡ Entered.In s t k → ReadsEdit (Said.Edit by n s t k) by n bytes ws
+  pub edit-said : {s : Operation} {t : Table} {k : ℕ} → r ≡ Entered.In s t k → ReadsEdit (Said.Edit by n s t k) by n bytes ws
   edit-said q = λ name variable h. record {
     is = sym (ap (Option·map (λ e. byCall by (take n name) (edit e))) (entered-is i q));
     inside = (h, entered-in i q);
@@ -115,7 +115,7 @@ unfolding verbCall encodeOf
 encode-none q = headed-none decimal encoded no-decimal q
 
 module _ {e : ℕ} {line : List ℕ} {column a : ℕ} (l : Leads decimal e line column a) {r : Entered} {bytes : List ℕ}
-    (i : Enters r bytes (tableEntry Key (wordsAfter a line))) where
+    (i : Enters r bytes (tableEntry Remove (wordsAfter a line))) where
   column-is : verbCall Encode (wordsAfter e line) ≡ encoded column (wordsAfter a line)
   unfolding verbCall encodeOf
   column-is = headed-some decimal encoded no-decimal l
@@ -123,7 +123,7 @@ module _ {e : ℕ} {line : List ℕ} {column a : ℕ} (l : Leads decimal e line 
   pub encode-bad : r ≡ Entered.Malformed → verbCall Encode (wordsAfter e line) ≡ none
   encode-bad q = column-is ∙ ap (Option·map (λ x. encodes (x .table) column (x .bytes))) (entered-none i q)
 
-  pub encode-said : {s : Subject} {t : Table} {n : ℕ} → r ≡ Entered.In s t n → (name variable : List ℕ)
+  pub encode-said : {s : Operation} {t : Table} {n : ℕ} → r ≡ Entered.In s t n → (name variable : List ℕ)
       → ReadsCall (Said.Encode t column n) name bytes variable (verbCall Encode (wordsAfter e line))
   encode-said q name variable = record {
     is = sym (column-is ∙ ap (Option·map (λ x. encodes (x .table) column (x .bytes))) (entered-is i q));

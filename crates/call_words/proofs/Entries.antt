@@ -14,10 +14,11 @@ use Rattle.text_rows.specs.TableWords.{tableNamed, namedTable}
 use Rattle.text_rows.specs.RowWords.{rowSaid}
 use Rattle.text_rows.specs.declared.Named.{Named}
 use Rattle.text_rows.specs.declared.Named.the-variants.{In, Other}
-use Rattle.call_words.specs.declared.Subject.{Subject}
+use Rattle.rows.specs.declared.Operation.{Operation}
 use Rattle.call_words.specs.declared.Changed.{Changed}
 use Rattle.call_words.specs.declared.Entered.{Entered}
-use Rattle.call_words.specs.Calls.{Entry, entryOf, fieldsOf, tableFields, tableEntry, subjectNamed, editEntry}
+use Rattle.edit_rules.specs.Edits.{fieldsOf}
+use Rattle.call_words.specs.Calls.{Entry, entryOf, tableFields, tableEntry, subjectNamed, editEntry}
 use Rattle.call_words.specs.Reading.{named, Leads, Silent, entered, enteredLength, Enters}
 use Rattle.call_words.proofs.Heads.{filled-is, filled-in, filled-bad, headed-none, headed-some, no-table, no-subject}
 
@@ -27,10 +28,10 @@ named-is s q = sym s ∙ ap namedTable q
 pub named-other : {r : Named} {o : Option Table} → namedTable r ≡ o → r ≡ Other → o ≡ none
 named-other s q = sym s ∙ ap namedTable q
 
-pub changed-is : {r : Changed} {o : Option Subject} {s : Subject} → named r ≡ o → r ≡ Changed.By s → o ≡ some s
+pub changed-is : {r : Changed} {o : Option Operation} {s : Operation} → named r ≡ o → r ≡ Changed.By s → o ≡ some s
 changed-is p q = sym p ∙ ap named q
 
-pub changed-other : {r : Changed} {o : Option Subject} → named r ≡ o → r ≡ Changed.Other → o ≡ none
+pub changed-other : {r : Changed} {o : Option Operation} → named r ≡ o → r ≡ Changed.Other → o ≡ none
 changed-other p q = sym p ∙ ap named q
 
 -- nothing is entered where nothing is said
@@ -39,7 +40,7 @@ enters-nothing bytes q = record { is = sym q; inside = omega arith }
 
 -- ---- a table and its fields
 
-module _ (s : Subject) (e : ℕ) (line bytes : List ℕ) where
+module _ (s : Operation) (e : ℕ) (line bytes : List ℕ) where
   pub enters-none : Silent tableNamed e line → Enters Entered.Malformed bytes (tableEntry s (wordsAfter e line))
   unfolding tableEntry
   enters-none q = enters-nothing bytes (headed-none tableNamed (tableFields s) no-table q)
@@ -62,7 +63,7 @@ module _ (e : ℕ) (line bytes : List ℕ) where
   unfolding editEntry
   edit-none q = enters-nothing bytes (headed-none subjectNamed tableEntry no-subject q)
 
-  pub edit-in : {s : Subject} {b : ℕ} → Leads subjectNamed e line s b → {r : Entered} → Enters r bytes (tableEntry s (wordsAfter b line))
+  pub edit-in : {s : Operation} {b : ℕ} → Leads subjectNamed e line s b → {r : Entered} → Enters r bytes (tableEntry s (wordsAfter b line))
       → Enters r bytes (editEntry (wordsAfter e line))
   unfolding editEntry
   edit-in l i = record { is = i .is ∙ sym (headed-some subjectNamed tableEntry no-subject l); inside = i .inside }
@@ -73,7 +74,7 @@ module _ {r : Entered} {bytes : List ℕ} {o : Option Entry} (i : Enters r bytes
   pub entered-none : r ≡ Entered.Malformed → o ≡ none
   entered-none q = sym (i .is) ∙ ap (λ u. entered u bytes) q
 
-  module _ {s : Subject} {t : Table} {n : ℕ} (q : r ≡ Entered.In s t n) where
+  module _ {s : Operation} {t : Table} {n : ℕ} (q : r ≡ Entered.In s t n) where
     pub entered-is : o ≡ some (entryOf s t (take n bytes))
     entered-is = sym (i .is) ∙ ap (λ u. entered u bytes) q
 

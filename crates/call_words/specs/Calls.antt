@@ -14,16 +14,14 @@ use lib.Dec.{leb}
 use lib.ListN.{length}
 use Rattle.lists.specs.Order.{same}
 use Rattle.rows.specs.declared.Table.{Table}
-use Rattle.rows.specs.Fields.{Field}
-use Rattle.rows.specs.Rows.{keyFields, rowFields}
 use Rattle.decision_steps.specs.Request.{Request}
 use Rattle.text_words.specs.Words.{words, decimal, hexOctets, dotted}
 use Rattle.request_words.specs.Requests.{longest, request}
-use Rattle.edit_rules.specs.Edits.{Edit, put, remove, Caller, callerOf}
+use Rattle.edit_rules.specs.Edits.{Edit, editOf, fieldsOf, Caller, callerOf}
 use Rattle.text_rows.specs.TableWords.{tableNamed}
 use Rattle.text_rows.specs.RowWords.{rowSaid}
-use Rattle.call_words.specs.declared.Subject.{Subject}
-use Rattle.call_words.specs.declared.Subject.the-variants.{Row, Key}
+use Rattle.rows.specs.declared.Operation.{Operation}
+use Rattle.rows.specs.declared.Operation.the-variants.{Put, Remove}
 use Rattle.call_words.specs.declared.Verb.{Verb}
 use Rattle.call_words.specs.declared.Verb.the-variants.{Decide, Owner, Principal, Encode, Decode, Image, Unknown}
 
@@ -79,35 +77,27 @@ headed read make (w ∷ ws) = bind (read w) (λ x. make x ws)
 
 -- ---- a table's row or key: the table's word and the fields
 
-abbrev pub fieldsOf : Subject → Table → List Field
-fieldsOf Row t = rowFields t
-fieldsOf Key t = keyFields t
-
 pub record Entry : Type 0 where
-  pub subject : Subject
+  pub operation : Operation
   pub table : Table
   pub bytes : List ℕ
 
-abbrev pub entryOf : Subject → Table → List ℕ → Entry
-entryOf s t b = record { subject = s; table = t; bytes = b }
+abbrev pub entryOf : Operation → Table → List ℕ → Entry
+entryOf s t b = record { operation = s; table = t; bytes = b }
 
-abbrev pub tableFields : Subject → Table → List (List ℕ) → Option Entry
+abbrev pub tableFields : Operation → Table → List (List ℕ) → Option Entry
 tableFields s t ws = Option·map (entryOf s t) (rowSaid (fieldsOf s t) ws)
 
-unfoldable pub tableEntry : Subject → List (List ℕ) → Option Entry
+unfoldable pub tableEntry : Operation → List (List ℕ) → Option Entry
 tableEntry s ws = headed tableNamed (tableFields s) ws
 
 -- ---- an edit: a row is put, the row of a key is removed
 
-abbrev pub editOf : Subject → Table → List ℕ → Edit
-editOf Row t b = put t b
-editOf Key t b = remove t b
-
 abbrev pub edit : Entry → Edit
-edit e = editOf (e .subject) (e .table) (e .bytes)
+edit e = editOf (e .operation) (e .table) (e .bytes)
 
-unfoldable pub subjectNamed : List ℕ → Option Subject
-subjectNamed w = cond (same w putWord) (some Row) (cond (same w removeWord) (some Key) none)
+unfoldable pub subjectNamed : List ℕ → Option Operation
+subjectNamed w = cond (same w putWord) (some Put) (cond (same w removeWord) (some Remove) none)
 
 unfoldable pub editEntry : List (List ℕ) → Option Entry
 editEntry ws = headed subjectNamed tableEntry ws
@@ -129,7 +119,7 @@ principalOf ws = headed decimal modeled ws
 
 -- column, then the key
 abbrev pub encoded : ℕ → List (List ℕ) → Option Call
-encoded column ws = Option·map (λ e. encodes (e .table) column (e .bytes)) (tableEntry Key ws)
+encoded column ws = Option·map (λ e. encodes (e .table) column (e .bytes)) (tableEntry Remove ws)
 
 unfoldable pub encodeOf : List (List ℕ) → Option Call
 encodeOf ws = headed decimal encoded ws

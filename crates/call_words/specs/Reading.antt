@@ -8,16 +8,16 @@ use Rattle.decision_steps.specs.Request.{Request, asked}
 use Rattle.text_words.specs.Words.{between, decimal, hexOctets, wordsAfter}
 use Rattle.request_words.specs.declared.Fields.{Fields}
 use Rattle.request_words.specs.Requests.{longest}
-use Rattle.edit_rules.specs.Edits.{Edit, callerOf}
+use Rattle.edit_rules.specs.Edits.{Edit, editOf, callerOf}
 use Rattle.call_words.specs.declared.Span.{Span}
 use Rattle.call_words.specs.declared.NumberAt.{NumberAt}
 use Rattle.call_words.specs.declared.NameAt.{NameAt}
-use Rattle.call_words.specs.declared.Subject.{Subject}
+use Rattle.rows.specs.declared.Operation.{Operation}
 use Rattle.call_words.specs.declared.Changed.{Changed}
 use Rattle.call_words.specs.declared.Entered.{Entered}
 use Rattle.call_words.specs.declared.By.{By}
 use Rattle.call_words.specs.declared.Said.{Said}
-use Rattle.call_words.specs.Calls.{Call, decides, owner, principal, encodes, decodes, images, Entry, entryOf, editOf, edit, editEntry}
+use Rattle.call_words.specs.Calls.{Call, decides, owner, principal, encodes, decodes, images, Entry, entryOf, edit, editEntry}
 
 -- ---- what the code asks for
 
@@ -72,7 +72,7 @@ ReadsName NameAt.Malformed e line name = Silent hexOctets e line
 
 -- ---- rows and keys: their bytes stand at a buffer's front
 
-abbrev pub named : Changed → Option Subject
+abbrev pub named : Changed → Option Operation
 named (Changed.By s) = some s
 named Changed.Other = none
 

@@ -3,6 +3,7 @@
 use request_words::Fields;
 use request_words::LONGEST_LINE;
 use request_words::Parsed;
+use rows::Operation;
 use rows::Table;
 use text_rows::Named;
 use text_words::Filled;
@@ -14,8 +15,9 @@ ghost use Prim.Native.Nat.{ℕ, _≤_};
 ghost use lib.ListN.{length};
 ghost use Rattle.text_words.specs.Words.{Fills, wordsAfter};
 ghost use Rattle.text_rows.specs.RowWords.{rowSaid};
+ghost use Rattle.edit_rules.specs.Edits.{fieldsOf};
 ghost use Rattle.call_words.specs.declared.Verb.the-variants.{Decide, Principal, Encode, Decode, Image};
-ghost use Rattle.call_words.specs.Calls.{subjectNamed, fieldsOf, tableEntry, editEntry, verbNamed, verbCall, lineCall};
+ghost use Rattle.call_words.specs.Calls.{subjectNamed, tableEntry, editEntry, verbNamed, verbCall, lineCall};
 ghost use Rattle.call_words.specs.Reading.{Lent, Behind, wordRoom, named, Spans, ReadsNumber, ReadsName, Enters, ReadsCall, ReadsEdit};
 
 // ---- words
@@ -79,14 +81,8 @@ fn name_behind(line: &[u8], end: usize, name: &mut [u8]) -> NameAt
 
 // ---- rows and keys
 
-// What an edit is about: a row that is put, or a key whose row is removed.
-pub enum Subject {
-    Row,
-    Key,
-}
-
 pub enum Changed {
-    By(Subject),
+    By(Operation),
     Other,
 }
 
@@ -95,31 +91,31 @@ fn subject_named(word: &[u8]) -> Changed
     ensures { λ r. ⌜ named r ≡ subjectNamed (now (word .entry)) ⌝ }
 {
     if octets::are_same(word, b"put") {
-        return Changed::By(Subject::Row);
+        return Changed::By(Operation::Put);
     }
     if octets::are_same(word, b"remove") {
-        return Changed::By(Subject::Key);
+        return Changed::By(Operation::Remove);
     }
     Changed::Other
 }
 
-fn fields_behind(s: Subject, t: Table, line: &[u8], end: usize, bytes: &mut [u8]) -> Filled
+fn fields_behind(s: Operation, t: Table, line: &[u8], end: usize, bytes: &mut [u8]) -> Filled
     requires { ⌜ Behind end (now line) × (wordRoom ≤ length (now bytes)) ⌝ }
     ensures { λ r. ⌜ Fills r (now (bytes .exit)) (rowSaid (fieldsOf s t) (wordsAfter end (now (line .entry)))) ⌝ }
 {
     match s {
-        Subject::Row => text_rows::row(t, line, end, bytes),
-        Subject::Key => text_rows::key(t, line, end, bytes),
+        Operation::Put => text_rows::row(t, line, end, bytes),
+        Operation::Remove => text_rows::key(t, line, end, bytes),
     }
 }
 
 // A table's row or key, and how many bytes it has.
 pub enum Entered {
-    In(Subject, Table, usize),
+    In(Operation, Table, usize),
     Malformed,
 }
 
-fn entry_behind(s: Subject, line: &[u8], end: usize, bytes: &mut [u8]) -> Entered
+fn entry_behind(s: Operation, line: &[u8], end: usize, bytes: &mut [u8]) -> Entered
     requires { ⌜ Behind end (now line) × (wordRoom ≤ length (now bytes)) ⌝ }
     ensures { λ r. ⌜ Enters r (now (bytes .exit)) (tableEntry s (wordsAfter end (now (line .entry)))) ⌝ }
 {
@@ -162,7 +158,7 @@ pub enum By {
 // A call: its numbers, and how long its name, its row or key, and its identifier are at the front of their buffers.
 pub enum Said {
     Decide(Fields),
-    Edit(By, usize, Subject, Table, usize),
+    Edit(By, usize, Operation, Table, usize),
     Encode(Table, u32, usize),
     Decode(usize),
     Image,
@@ -231,7 +227,7 @@ fn read_encode(line: &[u8], end: usize, bytes: &mut [u8]) -> Said
     let NumberAt::Of(column, a) = first else {
         return Said::Nothing;
     };
-    let entered = entry_behind(Subject::Key, line, a, bytes);
+    let entered = entry_behind(Operation::Remove, line, a, bytes);
     let Entered::In(_, t, n) = entered else {
         return Said::Nothing;
     };

@@ -37,8 +37,8 @@ use Rattle.table_update.specs.Exchange.{extentOf, tableRows, oneIf, rowsBefore,
 use Rattle.table_update.proofs.Splits.{length-rows}
 use Rattle.table_update.proofs.Stores.{rowKey, sound-whole, sound-ascends, sound-put, sound-removed, sought-exchanges, one-row}
 use Rattle.table_update.proofs.Rooms.{image-in, room-for, room-removed}
-use Rattle.edit_rules.specs.declared.Change.{Change}
-use Rattle.edit_rules.specs.declared.Change.the-variants.{Put, Remove}
+use Rattle.rows.specs.declared.Operation.{Operation}
+use Rattle.rows.specs.declared.Operation.the-variants.{Put, Remove}
 use Rattle.edit_rules.specs.declared.Edited.{Edited}
 use Rattle.edit_rules.proofs.Edited.{the-type}
 use Rattle.edit_rules.specs.declared.Edited.the-variants.{Done, Barred, Faulty}
@@ -135,12 +135,12 @@ pub not-done : (r : Edited) → OneOf (1 ∷ 2 ∷ []) (tagOf the-type r) → r 
 not-done r o e = let z : tagOf the-type r ≡ 0 = ap (tagOf the-type) e in ⊎-elim (λ h. omega arith) (λ h. omega arith) o
 
 -- Done only where the row is held, or is put where there is room
-absent-room : (c : Change) (n m : ℕ) → absentAnswer c n m ≡ Done → (c ≡ Put) × (m < n)
+absent-room : (c : Operation) (n m : ℕ) → absentAnswer c n m ≡ Done → (c ≡ Put) × (m < n)
 absent-room Put n m e =
     split (leb n m) (λ b. let z : Faulty TableFull ≡ Done = rw b at e in absurd (faulty-done z)) (λ b. (refl, leb-false n m b))
 absent-room Remove n m e = absurd (faulty-done e)
 
-done-room : (strict : Bool) (c : Change) (n : ℕ) (h : Bool) (old new m : ℕ) → placeAnswer strict c n h old new m ≡ Done → h ≡ false → (c ≡ Put) × (m < n)
+done-room : (strict : Bool) (c : Operation) (n : ℕ) (h : Bool) (old new m : ℕ) → placeAnswer strict c n h old new m ≡ Done → h ≡ false → (c ≡ Put) × (m < n)
 done-room strict c n true old new m e f = clash refl f
 done-room strict c n false old new m e f =
     split (strict && not (mayChange c old new)) (λ b. let z : Faulty StorageForbids ≡ Done = rw b at e in absurd (faulty-done z))
@@ -148,23 +148,23 @@ done-room strict c n false old new m e f =
 
 -- ---- the bytes handed: where the key ends, and what comes into the table
 
-pub key-within : (c : Change) (t : Table) (bytes : List ℕ) → faults (fieldsOf c t) bytes ≡ none → span (keyFields t) bytes ≤ length bytes
+pub key-within : (c : Operation) (t : Table) (bytes : List ℕ) → faults (fieldsOf c t) bytes ≡ none → span (keyFields t) bytes ≤ length bytes
 key-within Put t bytes f = key-room t bytes f
 key-within Remove t bytes f = omega (arith, span-whole (keyFields t) bytes f)
 
-abbrev taken : Change → List ℕ → List ℕ
+abbrev taken : Operation → List ℕ → List ℕ
 taken Put bytes = bytes
 taken Remove bytes = []
 
-taken-is : (c : Change) (bytes : List ℕ) {n : ℕ} → n ≡ lengthIn c (length bytes) → take (n - 0) bytes ≡ taken c bytes
+taken-is : (c : Operation) (bytes : List ℕ) {n : ℕ} → n ≡ lengthIn c (length bytes) → take (n - 0) bytes ≡ taken c bytes
 taken-is Put bytes {n} e = take-all (n - 0) bytes (omega arith)
 taken-is Remove bytes {n} e = let z : n - 0 ≡ 0 = omega arith in ap (λ m. take m bytes) z
 
-pub taken-within : (c : Change) (bytes : List ℕ) {n : ℕ} → n ≡ lengthIn c (length bytes) → n ≤ length bytes
+pub taken-within : (c : Operation) (bytes : List ℕ) {n : ℕ} → n ≡ lengthIn c (length bytes) → n ≤ length bytes
 taken-within Put bytes e = omega arith
 taken-within Remove bytes e = omega arith
 
-comes-taken : (c : Change) (t : Table) (bytes : List ℕ) → Octets bytes → faults (fieldsOf c t) bytes ≡ none → oneRow (taken c bytes) ≡ comes c bytes
+comes-taken : (c : Operation) (t : Table) (bytes : List ℕ) → Octets bytes → faults (fieldsOf c t) bytes ≡ none → oneRow (taken c bytes) ≡ comes c bytes
 comes-taken Put t bytes d f = one-row t bytes d f
 comes-taken Remove t bytes d f = refl
 
@@ -178,11 +178,11 @@ module _ (t : Table) (w : List ℕ) (h : isSound w ≡ true) (b : Octets w) (str
   abbrev rows : List (List ℕ)
   rows = tableRows t w
 
-  abbrev pub answerAt : Change → Edited
+  abbrev pub answerAt : Operation → Edited
   answerAt c = placeAnswer strict c (limit t) (p .present) (storageAt w p) (storageIn bytes) (extentOf t (layoutOf w) .count)
 
   -- where the row is not held, the answer Done is of a put, and there is room
-  absent-done : (c : Change) → answerAt c ≡ Done → p .present ≡ false → (c ≡ Put) × (extentOf t (layoutOf w) .count < limit t)
+  absent-done : (c : Operation) → answerAt c ≡ Done → p .present ≡ false → (c ≡ Put) × (extentOf t (layoutOf w) .count < limit t)
   absent-done c e = done-room strict c (limit t) (p .present) (storageAt w p) (storageIn bytes) (extentOf t (layoutOf w) .count) e
 
   room-left : answerAt Put ≡ Done → isHeld key rows ≡ false → length rows < limit t
@@ -191,17 +191,17 @@ module _ (t : Table) (w : List ℕ) (h : isSound w ≡ true) (b : Octets w) (str
   removed-held : answerAt Remove ≡ Done → p .present ≡ true
   removed-held e = is-true (p .present) (λ m. let z : _≡_ {A = ℕ} 0 1 = cc (absent-done Remove e m .0) in omega arith)
 
-  room-taken : (c : Change) → faults (fieldsOf c t) bytes ≡ none → answerAt c ≡ Done → {end : ℕ} → ImageIn w end
+  room-taken : (c : Operation) → faults (fieldsOf c t) bytes ≡ none → answerAt c ≡ Done → {end : ℕ} → ImageIn w end
       → (length (taken c bytes) < 65536) × (end + length (taken c bytes) + 2 ≤ length w + (p .end - p .from) + 2 * oneIf (p .present))
   room-taken Put f e i = room-for t w bytes h b d f (room-left e) i s
   room-taken Remove f e i = room-removed p i (removed-held e)
 
-  sound-after : (c : Change) → faults (fieldsOf c t) bytes ≡ none → answerAt c ≡ Done → {after : List ℕ}
+  sound-after : (c : Operation) → faults (fieldsOf c t) bytes ≡ none → answerAt c ≡ Done → {after : List ℕ}
       → Exchanges t (rowsBefore key rows) (oneIf (isHeld key rows)) (comes c bytes) w after → isSound after ≡ true
   sound-after Put f e x = sound-put t w bytes h b d f (room-left e) x
   sound-after Remove f e x = sound-removed t w bytes h b d f (rw (key-whole t bytes f) at x)
 
-  module _ (c : Change) (f : faults (fieldsOf c t) bytes ≡ none) where
+  module _ (c : Operation) (f : faults (fieldsOf c t) bytes ≡ none) where
     edit-is : edit strict (tables (storeRows w)) (editOf c t bytes)
         ≡ judged (changed t (rowsBefore key rows) (oneIf (isHeld key rows)) (comes c bytes) (storeRows w)) (tables (storeRows w)) (answerAt c)
     edit-is =

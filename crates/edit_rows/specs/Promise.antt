@@ -6,8 +6,8 @@ use Prim.Native.Nat.{ℕ}
 use Rattle.answers.specs.declared.Fault.the-variants.{NotSound}
 use Rattle.rows.specs.Tables.{Tables}
 use Rattle.image.specs.Store.{held}
-use Rattle.edit_rules.specs.declared.Change.{Change}
-use Rattle.edit_rules.specs.declared.Change.the-variants.{Put, Remove}
+use Rattle.rows.specs.declared.Operation.{Operation}
+use Rattle.rows.specs.declared.Operation.the-variants.{Put, Remove}
 use Rattle.edit_rules.specs.declared.Edited.{Edited}
 use Rattle.edit_rules.specs.declared.Edited.the-variants.{Done, Faulty}
 use Rattle.edit_rules.specs.Edits.{Outcome}
@@ -28,6 +28,6 @@ pub record Edits (f : Tables → Outcome Tables) (found after : List ℕ) (r : E
   pub refusal-keeps : (r ≡ Done → ⊥) → after ≡ found
 
 -- how many of the bytes handed come into the table: a row put, all of them
-abbrev pub lengthIn : Change → ℕ → ℕ
+abbrev pub lengthIn : Operation → ℕ → ℕ
 lengthIn Put n = n
 lengthIn Remove n = 0

@@ -1,8 +1,8 @@
 // The edit of a sound store by a row or key that is legal: answered at the place of the key, and made there.
 use answers::Fault;
-use edit_rules::Change;
 use edit_rules::Edited;
 use image_layout::Layout;
+use rows::Operation;
 use rows::Table;
 use table_update::Place;
 ghost use mathlib.Core.Path.{_≡_};
@@ -14,16 +14,16 @@ ghost use Rattle.rows.specs.Fields.{faults, span};
 ghost use Rattle.rows.specs.Rows.{keyFields, limit};
 ghost use Rattle.image_layout.specs.Layout.{layoutOf};
 ghost use Rattle.image.specs.Store.{isSound};
-ghost use Rattle.edit_rules.specs.declared.Change.the-variants.{Put};
+ghost use Rattle.rows.specs.declared.Operation.the-variants.{Put};
 ghost use Rattle.edit_rules.specs.Edits.{edit, editOf, fieldsOf, isContext};
 ghost use Rattle.edit_rules.specs.Storage.{storageIn, StorageIn, storageAt, absentAnswer, placeAnswer};
 ghost use Rattle.edit_rows.specs.Promise.{Edits, lengthIn};
 
 // The change of a row that is not held, in a table of so many rows.
-fn absent_answer(c: Change, t: Table, count: usize) -> Edited
+fn absent_answer(c: Operation, t: Table, count: usize) -> Edited
     ensures { λ r. ⌜ r ≡ absentAnswer c (limit t) count ⌝ }
 {
-    if let Change::Remove = c {
+    if let Operation::Remove = c {
         return Edited::Faulty(Fault::RowAbsent);
     }
     if rows::limit(t) <= count {
@@ -36,7 +36,7 @@ fn absent_answer(c: Change, t: Table, count: usize) -> Edited
 fn place_answer(
     w: &[u8],
     strict: bool,
-    c: Change,
+    c: Operation,
     t: Table,
     count: usize,
     p: Place,
@@ -56,12 +56,12 @@ fn place_answer(
     absent_answer(c, t, count)
 }
 
-fn length_in(c: Change, n: usize) -> usize
+fn length_in(c: Operation, n: usize) -> usize
     ensures { λ r. ⌜ r ≡ lengthIn c n ⌝ }
 {
     match c {
-        Change::Put => n,
-        Change::Remove => 0,
+        Operation::Put => n,
+        Operation::Remove => 0,
     }
 }
 
@@ -70,7 +70,7 @@ pub fn change(
     w: &mut [u8],
     l: Layout,
     strict: bool,
-    c: Change,
+    c: Operation,
     t: Table,
     bytes: &[u8],
     key: usize,

@@ -28,8 +28,8 @@ use Rattle.decision_steps.specs.Request.{asked, write}
 use Rattle.decision_steps.specs.Decision.{decision}
 use Rattle.table_update.proofs.Stores.{rowKey}
 use Rattle.instance_encode.specs.Instances.{instance, statusColumn, encodeFault, written, Encodes}
-use Rattle.edit_rules.specs.declared.Change.{Change}
-use Rattle.edit_rules.specs.declared.Change.the-variants.{Put, Remove}
+use Rattle.rows.specs.declared.Operation.{Operation}
+use Rattle.rows.specs.declared.Operation.the-variants.{Put, Remove}
 use Rattle.edit_rules.specs.Edits.{Caller, put, remove, editOf, fieldsOf, indexOfEdit, judgement}
 use Rattle.edit_rules.proofs.Outcomes.{key-whole}
 
@@ -52,12 +52,12 @@ module _ (t : Table) (row : List ℕ) (b : Octets row) (f : faults (rowFields t)
 pub key-part : (t : Table) (bytes : List ℕ) {k : ℕ} → span (keyFields t) bytes ≡ k → take (k - 0) bytes ≡ rowKey t bytes
 key-part t bytes {k} e = let z : k - 0 ≡ span (keyFields t) bytes = omega arith in ap (λ n. take n bytes) z
 
-pub key-legal : (c : Change) (t : Table) (bytes : List ℕ) → Octets bytes → faults (fieldsOf c t) bytes ≡ none → faults (keyFields t) (rowKey t bytes) ≡ none
+pub key-legal : (c : Operation) (t : Table) (bytes : List ℕ) → Octets bytes → faults (fieldsOf c t) bytes ≡ none → faults (keyFields t) (rowKey t bytes) ≡ none
 key-legal Put t bytes b f = front-whole t bytes b f
 key-legal Remove t bytes b f = rw (key-whole t bytes f) f
 
 -- an edit is judged as the removal of its key
-pub key-judged : (c : Change) (t : Table) (bytes : List ℕ) → Octets bytes → faults (fieldsOf c t) bytes ≡ none → (tables : Tables) (who : Caller)
+pub key-judged : (c : Operation) (t : Table) (bytes : List ℕ) → Octets bytes → faults (fieldsOf c t) bytes ≡ none → (tables : Tables) (who : Caller)
     → judgement tables who (remove t (rowKey t bytes)) ≡ judgement tables who (editOf c t bytes)
 unfolding judgement
 key-judged Put t bytes b f tables who =

@@ -26,8 +26,8 @@ use Rattle.table_update.specs.Tables.{rowAt, putRow, removeRow}
 use Rattle.table_update.proofs.Keys.{KeyOf, Whole, key-of-row, key-of-key}
 use Rattle.table_update.proofs.Typed.{put-rows, remove-rows, row-held, row-absent, context-index, mapping-index, access-index, view-index}
 use Rattle.table_update.proofs.Stores.{rowKey}
-use Rattle.edit_rules.specs.declared.Change.{Change}
-use Rattle.edit_rules.specs.declared.Change.the-variants.{Put, Remove}
+use Rattle.rows.specs.declared.Operation.{Operation}
+use Rattle.rows.specs.declared.Operation.the-variants.{Put, Remove}
 use Rattle.edit_rules.specs.declared.Edited.{Edited}
 use Rattle.edit_rules.specs.declared.Edited.the-variants.{Done, Barred, Faulty}
 use Rattle.edit_rules.specs.TableRows.{volatile, rowOf, rowIndex, storageOf, rowsOf, tablesOf, withRows}
@@ -78,7 +78,7 @@ module _ {R : Type 0} (t : Table) (of : List ℕ → R) (indexR : R → List ℕ
   held-storage : isHeld key rs ≡ true → strict ≡ true → storage (of found) ≡ storageIn found
   held-storage h y = q y found (whole-held t key rs a h)
 
-  abbrev answerAt : Change → Edited
+  abbrev answerAt : Operation → Edited
   answerAt c = placeAnswer strict c n (isHeld key rs) (storageFound key rs) (storageIn bytes) (length rs)
 
   -- a row put
@@ -184,17 +184,17 @@ module _ (rs : Table → List (List ℕ)) where
 pub key-whole : (t : Table) (key : List ℕ) → faults (keyFields t) key ≡ none → rowKey t key ≡ key
 key-whole t key f = take-all (span (keyFields t) key) key (omega (arith, span-whole (keyFields t) key f))
 
-pub key-of : (c : Change) (t : Table) (bytes : List ℕ) → Octets bytes → faults (fieldsOf c t) bytes ≡ none → KeyOf t (rowKey t bytes) (indexOf t bytes)
+pub key-of : (c : Operation) (t : Table) (bytes : List ℕ) → Octets bytes → faults (fieldsOf c t) bytes ≡ none → KeyOf t (rowKey t bytes) (indexOf t bytes)
 key-of Put t bytes d f = key-of-row t bytes d f
 key-of Remove t bytes d f = rw (key-whole t bytes f) (key-of-key t bytes d f)
 
-abbrev pub comes : Change → List ℕ → List (List ℕ)
+abbrev pub comes : Operation → List ℕ → List (List ℕ)
 comes Put bytes = bytes ∷ []
 comes Remove bytes = []
 
 module _ (rs : Table → List (List ℕ)) (a : (t : Table) → Whole t (rs t)) (s : (t : Table) → Ascends (indexOf t) (rs t)) (strict : Bool) (t : Table)
     (n : strict ≡ true → isContext t ≡ false) (bytes : List ℕ) (d : Octets bytes) where
-  pub edit-change : (c : Change) → faults (fieldsOf c t) bytes ≡ none → let key = rowKey t bytes in
+  pub edit-change : (c : Operation) → faults (fieldsOf c t) bytes ≡ none → let key = rowKey t bytes in
       edit strict (tables rs) (editOf c t bytes)
       ≡ judged (changed t (rowsBefore key (rs t)) (oneIf (isHeld key (rs t))) (comes c bytes) rs) (tables rs)
       (placeAnswer strict c (limit t) (isHeld key (rs t)) (storageFound key (rs t)) (storageIn bytes) (length (rs t)))

@@ -16,8 +16,8 @@ use Rattle.rows.specs.Tables.{Tables}
 use Rattle.lists.specs.Lists.{isNone}
 use Rattle.decision_steps.specs.Request.{asked, longestName, noAuthNoPriv, authPriv, write}
 use Rattle.decision_steps.specs.Decision.{decision}
-use Rattle.edit_rules.specs.declared.Change.{Change}
-use Rattle.edit_rules.specs.declared.Change.the-variants.{Put, Remove}
+use Rattle.rows.specs.declared.Operation.{Operation}
+use Rattle.rows.specs.declared.Operation.the-variants.{Put, Remove}
 use Rattle.edit_rules.specs.declared.Edited.{Edited}
 use Rattle.edit_rules.specs.declared.Edited.the-variants.{Done, Faulty}
 use Rattle.edit_rules.specs.TableRows.{permanent, readOnly, RowOf, rowOf, rowIndex, storageOf, rowsOf, withRows}
@@ -48,12 +48,12 @@ legalEdit (put t row) = isNone (faults (rowFields t) row)
 legalEdit (remove t key) = isNone (faults (keyFields t) key)
 
 -- as the code has it: a change of a row of a table, by bytes
-abbrev pub editOf : Change → Table → List ℕ → Edit
+abbrev pub editOf : Operation → Table → List ℕ → Edit
 editOf Put t bytes = put t bytes
 editOf Remove t bytes = remove t bytes
 
 -- the fields of what it is handed
-abbrev pub fieldsOf : Change → Table → List Field
+abbrev pub fieldsOf : Operation → Table → List Field
 fieldsOf Put t = rowFields t
 fieldsOf Remove t = keyFields t
 

@@ -9,8 +9,8 @@ use lib.Dec.{leb}
 use lib.ListN.{length, take, drop, getD}
 use Rattle.answers.specs.declared.Fault.the-variants.{TableFull, RowAbsent, StorageForbids}
 use Rattle.table_update.specs.declared.Place.{Place}
-use Rattle.edit_rules.specs.declared.Change.{Change}
-use Rattle.edit_rules.specs.declared.Change.the-variants.{Put, Remove}
+use Rattle.rows.specs.declared.Operation.{Operation}
+use Rattle.rows.specs.declared.Operation.the-variants.{Put, Remove}
 use Rattle.edit_rules.specs.declared.Edited.{Edited}
 use Rattle.edit_rules.specs.declared.Edited.the-variants.{Done, Faulty}
 use Rattle.edit_rules.specs.TableRows.{volatile}
@@ -29,16 +29,16 @@ abbrev pub storageAt : List ℕ → Place → ℕ
 storageAt w p = cond (p .present) (storageIn (take (p .end - p .from) (drop (p .from) w))) volatile
 
 -- whether a row of storage `old` may be changed, by a row of storage `new` where one is put
-abbrev pub mayChange : Change → ℕ → ℕ → Bool
+abbrev pub mayChange : Operation → ℕ → ℕ → Bool
 mayChange Put old new = mayPut (some old) new
 mayChange Remove old new = mayRemove old
 
 -- what the change of a row that is not held is answered, in a table of so many rows
-abbrev pub absentAnswer : Change → ℕ → ℕ → Edited
+abbrev pub absentAnswer : Operation → ℕ → ℕ → Edited
 absentAnswer Put limit count = cond (leb limit count) (Faulty TableFull) Done
 absentAnswer Remove limit count = Faulty RowAbsent
 
 -- what a change is answered at its place: 11 before 9 and 10, which only a row that is not held is answered
-abbrev pub placeAnswer : Bool → Change → ℕ → Bool → ℕ → ℕ → ℕ → Edited
+abbrev pub placeAnswer : Bool → Operation → ℕ → Bool → ℕ → ℕ → ℕ → Edited
 placeAnswer strict c limit present old new count =
     cond (strict && not (mayChange c old new)) (Faulty StorageForbids) (cond present Done (absentAnswer c limit count))

@@ -5,6 +5,7 @@ use answers::Fault;
 use answers::Written;
 use image_layout::Layout;
 use rows::MODEL_MAX;
+use rows::Operation;
 use rows::Table;
 use table_update::Place;
 ghost use mathlib.Core.Path.{_≡_};
@@ -14,7 +15,7 @@ ghost use lib.ListN.{length};
 ghost use Rattle.edit_rules.specs.Edits.{isFixed, mayPut, remove, legalCaller, callerOf, judgement, isContext};
 ghost use Rattle.decision_steps.specs.Request.{write, asked};
 ghost use Rattle.edit_rules.specs.Storage.{storageIn, StorageIn, storageAt, mayChange};
-ghost use Rattle.edit_rules.specs.declared.Change.the-variants.{Put};
+ghost use Rattle.rows.specs.declared.Operation.the-variants.{Put};
 ghost use mathlib.Core.List.{[]};
 ghost use Rattle.rows.specs.Fields.{faults};
 ghost use Rattle.rows.specs.Rows.{keyFields};
@@ -22,12 +23,6 @@ ghost use Rattle.image_judge.specs.Faults.{SoundLayout, tablesAt};
 ghost use Rattle.decision_steps.specs.Decision.{decision};
 ghost use Rattle.instance_encode.specs.Instances.{statusColumn};
 ghost use Rattle.edit_rules.specs.Admission.{admission};
-
-// What an edit does with a row: it is handed the row to put, or the key of the row to remove.
-pub enum Change {
-    Put,
-    Remove,
-}
 
 // The answer of an edit.
 pub enum Edited {
@@ -86,14 +81,14 @@ fn may_replace(old: u8, new: u8) -> bool
 }
 
 // The storage of the row held, and of the row put, lets a principal make the change.
-pub fn may_change(w: &[u8], c: Change, p: Place, bytes: &[u8]) -> bool
+pub fn may_change(w: &[u8], c: Operation, p: Place, bytes: &[u8]) -> bool
     requires { ⌜ StorageIn (now w) p × (c ≡ Put → 2 ≤ length (now bytes)) ⌝ }
     ensures { λ r. ⌜ r ≡ mayChange c (storageAt (now (w .entry)) p) (storageIn (now (bytes .entry))) ⌝ }
 {
     let old = held_storage(w, p);
     match c {
-        Change::Put => may_replace(old, storage(bytes)),
-        Change::Remove => !is_fixed(old),
+        Operation::Put => may_replace(old, storage(bytes)),
+        Operation::Remove => !is_fixed(old),
     }
 }
 

@@ -22,8 +22,8 @@ use Rattle.image_layout.specs.declared.Layout.{Layout}
 use Rattle.image_layout.specs.Layout.{layoutOf}
 use Rattle.image_judge.specs.Faults.{tablesAt}
 use Rattle.image.specs.Store.{isSound}
-use Rattle.edit_rules.specs.declared.Change.{Change}
-use Rattle.edit_rules.specs.declared.Change.the-variants.{Put, Remove}
+use Rattle.rows.specs.declared.Operation.{Operation}
+use Rattle.rows.specs.declared.Operation.the-variants.{Put, Remove}
 use Rattle.edit_rules.specs.declared.Edited.{Edited}
 use Rattle.edit_rules.specs.declared.Edited.the-variants.{Barred, Faulty}
 use Rattle.edit_rules.specs.Edits.{Edit, Caller, tableOf, editOf, fieldsOf, edit, legalCaller, legalEdit, judgement, isContext, Outcome}
@@ -37,7 +37,7 @@ use Rattle.edits.specs.declared.Prepared.the-variants.{Ready, Unready}
 
 -- ---- what is handed
 
-pub legal-is : (c : Change) (t : Table) (bytes : List ℕ) → legalEdit (editOf c t bytes) ≡ isNone (faults (fieldsOf c t) bytes)
+pub legal-is : (c : Operation) (t : Table) (bytes : List ℕ) → legalEdit (editOf c t bytes) ≡ isNone (faults (fieldsOf c t) bytes)
 unfolding legalEdit
 legal-is Put t bytes = refl
 legal-is Remove t bytes = refl
@@ -46,7 +46,7 @@ none-is : (o : Option Fault) → isNone o ≡ true → o ≡ none
 none-is none e = refl
 none-is (some f) e = cc
 
-pub table-is : (c : Change) (t : Table) (bytes : List ℕ) → tableOf (editOf c t bytes) ≡ t
+pub table-is : (c : Operation) (t : Table) (bytes : List ℕ) → tableOf (editOf c t bytes) ≡ t
 table-is Put t bytes = refl
 table-is Remove t bytes = refl
 
@@ -58,7 +58,7 @@ ready-is true true d n e = (refl, refl, cc, cc)
 ready-is true false d n e = (refl, cc, cc, cc)
 ready-is false b d n e = (cc, cc, cc, cc)
 
-module _ (c : Change) (t : Table) (w bytes : List ℕ) where
+module _ (c : Operation) (t : Table) (w bytes : List ℕ) where
   pub ready : {l : Layout} {k : ℕ} → Ready l k ≡ prepared w c t bytes
       → (isSound w ≡ true) × (legalEdit (editOf c t bytes) ≡ true) × (l ≡ layoutOf w) × (k ≡ span (keyFields t) bytes)
   ready e = ready-is (isSound w) (legalEdit (editOf c t bytes)) (layoutOf w) (span (keyFields t) bytes) e

@@ -12,7 +12,7 @@ use Rattle.rows.specs.Rows.{keyFields}
 use Rattle.rows.specs.Tables.{Tables}
 use Rattle.image_layout.specs.Layout.{layoutOf}
 use Rattle.image.specs.Store.{isSound}
-use Rattle.edit_rules.specs.declared.Change.{Change}
+use Rattle.rows.specs.declared.Operation.{Operation}
 use Rattle.edit_rules.specs.declared.Edited.{Edited}
 use Rattle.edit_rules.specs.declared.Edited.the-variants.{Done, Barred, Faulty}
 use Rattle.edit_rules.specs.Edits.{Outcome, Edit, Caller, tableOf, editOf, edit, legalCaller, legalEdit, judgement, isContext}
@@ -54,6 +54,6 @@ abbrev pub PrincipalEdits : Caller → Edit → List ℕ → List ℕ → Edited
 PrincipalEdits c e found after r = Edits (λ t. principalEdit t c e) found after r
 
 -- what both begin with: 6 for the store, then 7 for what is handed
-abbrev pub prepared : List ℕ → Change → Table → List ℕ → Prepared
+abbrev pub prepared : List ℕ → Operation → Table → List ℕ → Prepared
 prepared w c t bytes =
     cond (isSound w) (cond (legalEdit (editOf c t bytes)) (Ready (layoutOf w) (span (keyFields t) bytes)) (Unready OutOfRange)) (Unready NotSound)

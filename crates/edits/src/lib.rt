@@ -1,17 +1,17 @@
 // The owner's and the principals' edits of a store. A row is handed in the form of the image, its fields' bytes one after the other, and a key likewise.
 use answers::Fault;
 use edit_rules::Admission;
-use edit_rules::Change;
 use edit_rules::Edited;
 use image_judge::Surveyed;
 use image_layout::Layout;
+use rows::Operation;
 use rows::Step;
 use rows::Table;
 ghost use mathlib.Core.Path.{_≡_};
 ghost use Rattle.rows.specs.Fields.{faults, span};
 ghost use Rattle.rows.specs.Rows.{keyFields};
 ghost use Rattle.rows.specs.Steps.{reached};
-ghost use Rattle.edit_rules.specs.Edits.{put, remove, editOf, fieldsOf, callerOf};
+ghost use Rattle.edit_rules.specs.Edits.{editOf, fieldsOf, callerOf};
 ghost use Rattle.edits.specs.Calls.{OwnerEdits, PrincipalEdits, editedNumber, prepared};
 
 // The number of an edit's answer.
@@ -25,12 +25,12 @@ pub fn edited_number(e: Edited) -> u32
     }
 }
 
-fn judge_change(c: Change, t: Table, bytes: &[u8]) -> Step
+fn judge_change(c: Operation, t: Table, bytes: &[u8]) -> Step
     ensures { λ r. ⌜ r ≡ reached (faults (fieldsOf c t) (now (bytes .entry))) (span (keyFields t) (now (bytes .entry))) ⌝ }
 {
     match c {
-        Change::Put => rows::judge(t, bytes),
-        Change::Remove => rows::judge_key(t, bytes),
+        Operation::Put => rows::judge(t, bytes),
+        Operation::Remove => rows::judge_key(t, bytes),
     }
 }
 
@@ -40,7 +40,7 @@ enum Prepared {
     Unready(Fault),
 }
 
-fn prepare(store: &[u8], c: Change, t: Table, bytes: &[u8]) -> Prepared
+fn prepare(store: &[u8], c: Operation, t: Table, bytes: &[u8]) -> Prepared
     ensures { λ r. ⌜ r ≡ prepared (now (store .entry)) c t (now (bytes .entry)) ⌝ }
 {
     let surveyed = image::survey_store(store);
@@ -54,7 +54,8 @@ fn prepare(store: &[u8], c: Change, t: Table, bytes: &[u8]) -> Prepared
     Prepared::Ready(l, k)
 }
 
-fn owner_edit(store: &mut [u8], c: Change, t: Table, bytes: &[u8]) -> Edited
+// The owner puts a row into a table, in place of the row with its key where one is held, or removes the row with a key.
+pub fn owner_edit(store: &mut [u8], c: Operation, t: Table, bytes: &[u8]) -> Edited
     ensures { λ r. ⌜ OwnerEdits (editOf c t (now (bytes .entry))) (now (store .entry)) (now (store .exit)) r ⌝ }
 {
     let prepared = prepare(store, c, t, bytes);
@@ -64,12 +65,13 @@ fn owner_edit(store: &mut [u8], c: Change, t: Table, bytes: &[u8]) -> Edited
     }
 }
 
-fn principal_edit(
+// The same by a principal, where the tables and the storage let it.
+pub fn principal_edit(
     store: &mut [u8],
     security_model: u32,
     security_name: &[u8],
     security_level: u32,
-    c: Change,
+    c: Operation,
     t: Table,
     bytes: &[u8],
 ) -> Edited
@@ -99,68 +101,4 @@ fn principal_edit(
             edit_rows::change(store, l, true, c, t, bytes, k)
         }
     }
-}
-
-// ---- the owner's calls
-
-// The owner puts a row into a table, in place of the row with its key where one is held.
-pub fn owner_put(store: &mut [u8], t: Table, row: &[u8]) -> Edited
-    ensures { λ r. ⌜ OwnerEdits (put t (now (row .entry))) (now (store .entry)) (now (store .exit)) r ⌝ }
-{
-    owner_edit(store, Change::Put, t, row)
-}
-
-// The owner removes the row with a key from a table.
-pub fn owner_remove(store: &mut [u8], t: Table, key: &[u8]) -> Edited
-    ensures { λ r. ⌜ OwnerEdits (remove t (now (key .entry))) (now (store .entry)) (now (store .exit)) r ⌝ }
-{
-    owner_edit(store, Change::Remove, t, key)
-}
-
-// ---- the principals' calls
-
-// A principal puts a row into a table, where the tables and the storage let it.
-pub fn principal_put(
-    store: &mut [u8],
-    security_model: u32,
-    security_name: &[u8],
-    security_level: u32,
-    t: Table,
-    row: &[u8],
-) -> Edited
-    ensures { λ r. ⌜ PrincipalEdits (callerOf «security_model» (now («security_name» .entry)) «security_level») (put t (now (row .entry)))
-        (now (store .entry)) (now (store .exit)) r ⌝ }
-{
-    principal_edit(
-        store,
-        security_model,
-        security_name,
-        security_level,
-        Change::Put,
-        t,
-        row,
-    )
-}
-
-// A principal removes the row with a key from a table, where the tables and the storage let it.
-pub fn principal_remove(
-    store: &mut [u8],
-    security_model: u32,
-    security_name: &[u8],
-    security_level: u32,
-    t: Table,
-    key: &[u8],
-) -> Edited
-    ensures { λ r. ⌜ PrincipalEdits (callerOf «security_model» (now («security_name» .entry)) «security_level») (remove t (now (key .entry)))
-        (now (store .entry)) (now (store .exit)) r ⌝ }
-{
-    principal_edit(
-        store,
-        security_model,
-        security_name,
-        security_level,
-        Change::Remove,
-        t,
-        key,
-    )
 }

@@ -11,10 +11,12 @@ use Rattle.lists.specs.Lists.{keep, every}
 use Rattle.lists.proofs.Bools.{split, and-left, and-right}
 use Rattle.rows.specs.Tables.{Tables}
 use Rattle.image.specs.Store.{held}
-use Rattle.isolation.specs.Isolation.{Call, Reply, Told, calls, Run, done, more, Circle, shared, picked, staysInside, insidersEdit, mapsToGroup}
+use Rattle.edits.specs.Does.{Call, Reply}
+use Rattle.isolation.specs.Isolation.{Told, calls, Run, done, more, Circle, shared, picked, staysInside, insidersEdit, mapsToGroup}
 use Rattle.isolation.specs.Isolation.{givesChosen, findsRoom, othersRefused}
 use Rattle.isolation.proofs.Circles.{circleRows, Orderly}
-use Rattle.isolation.proofs.Steps.{step, does-step, step-shared, step-other, step-orderly}
+use Rattle.isolation.proofs.Steps.{step-shared, step-other, step-orderly}
+use Rattle.edits.proofs.Steps.{step, does-step}
 
 -- ---- a list of calls, each with its answer, and the tables at the end
 
@@ -32,7 +34,7 @@ pub run-trace : {s s′ : List ℕ} {ts : List Told} → Run s ts s′ → (t : 
 unfolding trace final
 run-trace done t e = (refl, e)
 run-trace {s} (more {next = m} {c = c} {r = r} {ts = ts} d run) t e =
-    let h = does-step s m t c r d e in
+    let h = does-step t d e in
     let ih = run-trace run (step t c .1) (h .1) in
     (rw (← (h .0)) (ap (λ (l : List Told). (c, r) ∷ l) (ih .0)), ih .1)
 

@@ -21,9 +21,10 @@ use Rattle.decision_steps.specs.Decision.{bearsContext, mapsPrincipal, contextF
 use Rattle.decision_steps.specs.Decision.{chosenView, decision}
 use Rattle.edit_rules.specs.Edits.{Edit, put, remove, Caller, indexOfEdit, legalEdit, mayPut, mayRemove, puts, removes, edit, legalCaller, judgement}
 use Rattle.edits.specs.Calls.{ownerEdit, principalEdit}
-use Rattle.isolation.specs.Isolation.{Call, ask, owner, by, replyNumber, Told, calls, Run, Fresh, Circle, picked, staysInside, insidersEdit, mapsToGroup}
+use Rattle.edits.specs.Does.{Call, ask, owner, by, replyNumber}
+use Rattle.isolation.specs.Isolation.{Told, calls, Run, Fresh, Circle, picked, staysInside, insidersEdit, mapsToGroup}
 use Rattle.isolation.specs.Isolation.{givesChosen, findsRoom, othersRefused, Conditions}
-use Rattle.isolation.proofs.Steps.{step}
+use Rattle.edits.proofs.Steps.{step}
 use Rattle.isolation.proofs.Alone.{trace, run-trace}
 
 -- ---- names, as octets

@@ -1,5 +1,5 @@
--- A call as a step from tables to its answer and the tables that it leaves.
--- What a call does with a store is its step on the tables held. A shared call does with the circle's rows alone what it does with all rows:
+-- The steps of calls beside the circle's rows.
+-- A shared call does with the circle's rows alone what it does with all rows:
 -- a member's request and the judgement of its edit go by the circle's rows, and the edit itself is of the circle. Any other call leaves the
 -- circle's rows: an edit of the circle by another principal is refused, and other edits do not show there. Assumes nothing.
 use mathlib.Core.Path.{_≡_, refl, sym, ap, subst, _∙_}
@@ -20,37 +20,13 @@ use Rattle.instance_encode.specs.Instances.{instance, statusColumn}
 use Rattle.edit_rules.specs.Edits.{Edit, put, remove, Caller, Outcome, tableOf, indexOfEdit, legalEdit, legalCaller, isContext, edit, judgement}
 use Rattle.edits.specs.Calls.{allowed, ownerEdit, principalEdit, editedNumber}
 use Rattle.edit_rows.specs.Promise.{answered, left, Edits}
-use Rattle.isolation.specs.Isolation.{Call, ask, owner, by, Reply, decided, edited, Does, Circle, ofCircle, isMember, shared, implies, staysInside}
+use Rattle.edits.specs.Does.{Call, ask, owner, by, Reply, decided, edited}
+use Rattle.edits.proofs.Steps.{stepped, step}
+use Rattle.isolation.specs.Isolation.{Circle, ofCircle, isMember, shared, implies, staysInside}
 use Rattle.isolation.specs.Isolation.{insidersEdit, mapsToGroup, givesChosen, findsRoom, othersRefused}
 use Rattle.isolation.proofs.Circles.{implied, circleRows, Orderly}
 use Rattle.isolation.proofs.Decisions.{decision-keep}
 use Rattle.isolation.proofs.Edits.{HasRoom, circleOf, fits, edit-refused, edit-in, edit-out, edit-orderly}
-
-abbrev pub stepped : Outcome Tables → Reply × Tables
-stepped o = (edited (o .answer), o .rows)
-
-unfoldable pub step : Tables → Call → Reply × Tables
-step t (ask q) = (decided (ifLegal (legalRequest q) t q), t)
-step t (owner e) = stepped (ownerEdit t e)
-step t (by c e) = stepped (principalEdit t c e)
-
--- ---- a call on a store that holds tables
-
-edits-step : (f : Tables → Outcome Tables) (s s′ : List ℕ) (t : Tables) (r : Edited) → Edits f s s′ r → held s ≡ some t
-    → (r ≡ f t .answer) × (held s′ ≡ some (f t .rows))
-edits-step f s s′ t r d e = (d .answer-is ∙ ap (answered f) e, d .rows-are ∙ ap (left f) e)
-
-pub does-step : (s s′ : List ℕ) (t : Tables) (c : Call) (r : Reply) → Does s c r s′ → held s ≡ some t
-    → (r ≡ step t c .0) × (held s′ ≡ some (step t c .1))
-unfolding step
-does-step s s′ t (ask q) (decided a) d e = (ap decided (d .0 ∙ ap (λ o. answer o q) e), ap held (d .1) ∙ e)
-does-step s s′ t (ask q) (edited r) d e = absurd d
-does-step s s′ t (owner a) (decided r) d e = absurd d
-does-step s s′ t (owner a) (edited r) d e =
-    let h = edits-step (λ u. ownerEdit u a) s s′ t r d e in (ap edited (h .0), h .1)
-does-step s s′ t (by c a) (decided r) d e = absurd d
-does-step s s′ t (by c a) (edited r) d e =
-    let h = edits-step (λ u. principalEdit u c a) s s′ t r d e in (ap edited (h .0), h .1)
 
 -- ---- an edit by its caller: refused, or made
 

@@ -7,8 +7,6 @@ use mathlib.Core.List.{List, [], _∷_, map}
 use mathlib.Core.Option.{some}
 use Prim.Native.Nat.{ℕ}
 use lib.Dec.{eqb}
-use Rattle.answers.specs.declared.Answer.{Answer}
-use Rattle.answers.specs.Numbers.{answerNumber}
 use Rattle.lists.specs.Lists.{keep, every}
 use Rattle.lists.specs.Order.{same}
 use Rattle.rows.specs.declared.Table.the-variants.{Context, Mapping, Access, View}
@@ -17,41 +15,12 @@ use Rattle.rows.specs.Rows.{MappingRow, AccessRow, ViewRow, contextKey, mapping
 use Rattle.rows.specs.Rows.{viewOf}
 use Rattle.rows.specs.Tables.{Tables, noRows}
 use Rattle.image.specs.Store.{held}
-use Rattle.decision_steps.specs.Request.{Request}
-use Rattle.decision_steps.specs.Decision.{answer}
-use Rattle.edit_rules.specs.declared.Edited.{Edited}
 use Rattle.table_update.specs.Tables.{rowAt}
 use Rattle.edit_rules.specs.Edits.{Edit, put, remove, Caller}
 use Rattle.edit_rules.specs.TableRows.{contextIndex, mappingIndex, accessIndex, viewIndex}
-use Rattle.edits.specs.Calls.{editedNumber, OwnerEdits, PrincipalEdits}
+use Rattle.edits.specs.Does.{Call, ask, owner, by, Reply, replyNumber, Does}
 
--- ---- the calls, and what each of them does
-
--- Document 01: "A list holds decision requests, principals' edits and owner's edits, accepted or refused, and no other call."
-pub data Call : Type 0 where
-  ask : Request → Call
-  owner : Edit → Call
-  by : Caller → Edit → Call
-
--- Document 01: "An answer is all that a call hands back but the store."
-pub data Reply : Type 0 where
-  decided : Answer → Reply
-  edited : Edited → Reply
-
--- document 01's number for each case
-abbrev pub replyNumber : Reply → ℕ
-replyNumber (decided a) = answerNumber a
-replyNumber (edited r) = editedNumber r
-
--- What a call does with the store `found`: its answer, and the store `after`. These are the propositions that the calls' contracts cite.
--- A decision request borrows the store and leaves it.
-abbrev pub Does : List ℕ → Call → Reply → List ℕ → Type 0
-Does found (ask q) (decided a) after = (a ≡ answer (held found) q) × (after ≡ found)
-Does found (ask q) (edited r) after = ⊥
-Does found (owner e) (decided a) after = ⊥
-Does found (owner e) (edited r) after = OwnerEdits e found after r
-Does found (by c e) (decided a) after = ⊥
-Does found (by c e) (edited r) after = PrincipalEdits c e found after r
+-- The calls and what each of them does are those of `edits/specs/Does.antt`: the propositions that the calls' contracts cite.
 
 -- ---- "Take every two lists of decision requests and edits, refused ones included, each from a fresh store."
 

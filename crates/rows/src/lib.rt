@@ -18,6 +18,12 @@ pub enum Table {
     View,
 }
 
+// What an edit does with a row: it is handed the row to put, or the key of the row to remove.
+pub enum Operation {
+    Put,
+    Remove,
+}
+
 // The place that is reached, or what is wrong before it.
 pub enum Step {
     At(usize),

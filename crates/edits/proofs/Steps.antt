@@ -1,0 +1,36 @@
+-- A call as a step from tables to its answer and the tables that it leaves: what a call does with a store is its step on the tables held.
+-- Kind by kind, from the call's own promise. Assumes nothing.
+use mathlib.Core.Path.{_≡_, ap, _∙_}
+use mathlib.Core.List.{List}
+use mathlib.Core.Option.{some}
+use Prim.Native.Nat.{ℕ}
+use Rattle.rows.specs.Tables.{Tables}
+use Rattle.image.specs.Store.{held}
+use Rattle.decision_steps.specs.Request.{legalRequest}
+use Rattle.decision_steps.specs.Decision.{ifLegal, answer}
+use Rattle.edit_rules.specs.declared.Edited.{Edited}
+use Rattle.edit_rules.specs.Edits.{Outcome}
+use Rattle.edit_rows.specs.Promise.{answered, left, Edits}
+use Rattle.edits.specs.Calls.{ownerEdit, principalEdit}
+use Rattle.edits.specs.Does.{Call, ask, owner, by, Reply, decided, edited, Does, asks, owns, acts}
+
+abbrev pub stepped : Outcome Tables → Reply × Tables
+stepped o = (edited (o .answer), o .rows)
+
+unfoldable pub step : Tables → Call → Reply × Tables
+step t (ask q) = (decided (ifLegal (legalRequest q) t q), t)
+step t (owner e) = stepped (ownerEdit t e)
+step t (by c e) = stepped (principalEdit t c e)
+
+-- ---- a call on a store that holds tables
+
+edits-step : (f : Tables → Outcome Tables) (s s′ : List ℕ) (t : Tables) (r : Edited) → Edits f s s′ r → held s ≡ some t
+    → (r ≡ f t .answer) × (held s′ ≡ some (f t .rows))
+edits-step f s s′ t r d e = (d .answer-is ∙ ap (answered f) e, d .rows-are ∙ ap (left f) e)
+
+pub does-step : {s s′ : List ℕ} {c : Call} {r : Reply} → (t : Tables) → Does s c r s′ → held s ≡ some t
+    → (r ≡ step t c .0) × (held s′ ≡ some (step t c .1))
+unfolding step
+does-step t (asks {q = q} d) e = (ap decided (d ∙ ap (λ o. answer o q) e), e)
+does-step t (owns {e = a} d) e = let h = edits-step (λ u. ownerEdit u a) _ _ t _ d e in (ap edited (h .0), h .1)
+does-step t (acts {c = c} {e = a} d) e = let h = edits-step (λ u. principalEdit u c a) _ _ t _ d e in (ap edited (h .0), h .1)

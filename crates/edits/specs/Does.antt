@@ -1,0 +1,35 @@
+-- The calls on a store of which lists are made (document 01, "The two lists of demand 3"), their answers, and what each of them does. Assumes nothing.
+use mathlib.Core.Path.{_≡_}
+use mathlib.Core.List.{List}
+use Prim.Native.Nat.{ℕ}
+use Rattle.answers.specs.declared.Answer.{Answer}
+use Rattle.answers.specs.Numbers.{answerNumber}
+use Rattle.image.specs.Store.{held}
+use Rattle.decision_steps.specs.Request.{Request}
+use Rattle.decision_steps.specs.Decision.{answer}
+use Rattle.edit_rules.specs.declared.Edited.{Edited}
+use Rattle.edit_rules.specs.Edits.{Edit, Caller}
+use Rattle.edits.specs.Calls.{editedNumber, OwnerEdits, PrincipalEdits}
+
+-- a decision request, an owner's edit, a principal's edit
+pub data Call : Type 0 where
+  ask : Request → Call
+  owner : Edit → Call
+  by : Caller → Edit → Call
+
+-- all that a call hands back but the store
+pub data Reply : Type 0 where
+  decided : Answer → Reply
+  edited : Edited → Reply
+
+-- document 01's number for each case
+abbrev pub replyNumber : Reply → ℕ
+replyNumber (decided a) = answerNumber a
+replyNumber (edited r) = editedNumber r
+
+-- What a call does with the store `found`: its answer, and the store `after`. A clause for each kind of call: the proposition that its contract
+-- cites. A decision request borrows the store and leaves it.
+pub data Does (found : List ℕ) : Call → Reply → List ℕ → Type 0 where
+  asks : {q : Request} {a : Answer} → a ≡ answer (held found) q → Does found (ask q) (decided a) found
+  owns : {e : Edit} {r : Edited} {after : List ℕ} → OwnerEdits e found after r → Does found (owner e) (edited r) after
+  acts : {c : Caller} {e : Edit} {r : Edited} {after : List ℕ} → PrincipalEdits c e found after r → Does found (by c e) (edited r) after
