@@ -75,8 +75,7 @@ mod proved {
                 variable: *const u32,
                 variable_len: usize,
             ) -> u32;
-            fn bench_owner_put(store: *mut u8, store_len: usize, table: u32, row: *const u8, row_len: usize) -> u32;
-            fn bench_owner_remove(store: *mut u8, store_len: usize, table: u32, key: *const u8, key_len: usize) -> u32;
+            fn bench_owner_edit(store: *mut u8, store_len: usize, operation: u32, table: u32, bytes: *const u8, bytes_len: usize) -> u32;
             fn bench_read_image(image: *const u8, image_len: usize, store: *mut [u8; ROOM]) -> u32;
             fn bench_write_image(store: *const u8, store_len: usize, out: *mut u8, out_len: usize) -> u64;
         }
@@ -100,11 +99,11 @@ mod proved {
         }
 
         pub fn owner_put(store: &mut [u8], table: u32, row: &[u8]) -> u32 {
-            unsafe { bench_owner_put(store.as_mut_ptr(), store.len(), table, row.as_ptr(), row.len()) }
+            unsafe { bench_owner_edit(store.as_mut_ptr(), store.len(), 0, table, row.as_ptr(), row.len()) }
         }
 
         pub fn owner_remove(store: &mut [u8], table: u32, key: &[u8]) -> u32 {
-            unsafe { bench_owner_remove(store.as_mut_ptr(), store.len(), table, key.as_ptr(), key.len()) }
+            unsafe { bench_owner_edit(store.as_mut_ptr(), store.len(), 1, table, key.as_ptr(), key.len()) }
         }
 
         pub fn read_image(image: &[u8], store: &mut [u8; ROOM]) -> u32 {

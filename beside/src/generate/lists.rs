@@ -66,10 +66,43 @@ impl Circle {
     }
 }
 
+/// Two starts whose circles agree: the same rows of the circle in both, such as members and the owner may put there, and others apart.
+pub fn agreeing_starts(random: &mut Random, world: &World, circle: &Circle) -> [Tables; 2] {
+    let mut shared = Tables::default();
+    for row in opening_rows(random, circle) {
+        if random.chance(85) {
+            shared.put(row);
+        }
+    }
+    for _ in 0..random.below(24) {
+        if let Edit::Put(row) = circle_edit(random, world, circle, &shared) {
+            put_with_room(&mut shared, row);
+        }
+    }
+    let mut starts = [shared.clone(), shared];
+    for tables in &mut starts {
+        for _ in 0..random.below(80) {
+            let table = table(random);
+            let row = row(random, world, table);
+            if !circle.has_key(&row.key()) {
+                put_with_room(tables, row);
+            }
+        }
+    }
+    starts
+}
+
+fn put_with_room(tables: &mut Tables, row: Row) {
+    let table = row.key().table();
+    if tables.count(table) < table.limit() {
+        tables.put(row);
+    }
+}
+
 /// Two lists that share the member calls and the owner's edits of the circle; the others are drawn apart.
-pub fn two_lists(random: &mut Random, world: &World, circle: &Circle, length: usize) -> [Vec<Call>; 2] {
+pub fn two_lists(random: &mut Random, world: &World, circle: &Circle, starts: &[Tables; 2], length: usize) -> [Vec<Call>; 2] {
     let mut lists = [Vec::new(), Vec::new()];
-    let mut tables = [Tables::default(), Tables::default()];
+    let mut tables = starts.clone();
     let opening = opening_rows(random, circle);
     for step in 0..length {
         let next = match opening.get(step) {
@@ -183,8 +216,8 @@ fn other_call(random: &mut Random, world: &World, circle: &Circle, tables: &Tabl
 }
 
 /// The conditions on a list: others have no edit accepted in the circle, and no shared put of the circle is answered 9.
-pub fn list_keeps(circle: &Circle, list: &[Call]) -> bool {
-    let mut tables = Tables::default();
+pub fn list_keeps(circle: &Circle, start: &Tables, list: &[Call]) -> bool {
+    let mut tables = start.clone();
     for call in list {
         let shared = circle.is_shared(call);
         let number = answer(&mut tables, call);

@@ -6,12 +6,18 @@ use lib.Dec.{eqb}
 use Rattle.answers.specs.declared.Written.{Written}
 use Rattle.answers.specs.declared.Written.the-variants.{Length, Unwritten}
 use Rattle.answers.specs.Numbers.{faultNumber}
+use Rattle.rows.specs.declared.Operation.{Operation}
+use Rattle.rows.specs.declared.Operation.the-variants.{Put, Remove}
 use Rattle.rows.specs.declared.Table.{Table}
 use Rattle.rows.specs.declared.Table.the-variants.{Context, Mapping, Access, View}
 
 -- the tables in document 01's order, from 0 on
 abbrev pub tableNumbered : ℕ → Table
 tableNumbered n = cond (eqb n 0) Context (cond (eqb n 1) Mapping (cond (eqb n 2) Access View))
+
+-- put, then remove
+abbrev pub operationNumbered : ℕ → Operation
+operationNumbered n = cond (eqb n 0) Put Remove
 
 -- a length, or a refusal's number above all lengths
 abbrev pub lengthNumber : Written → ℕ

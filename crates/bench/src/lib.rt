@@ -8,10 +8,10 @@ ghost use Rattle.answers.specs.Numbers.{answerNumber};
 ghost use Rattle.image.specs.Store.{held};
 ghost use Rattle.decision_steps.specs.Request.{asked};
 ghost use Rattle.decision_steps.specs.Decision.{answer};
-ghost use Rattle.edit_rules.specs.Edits.{put, remove};
+ghost use Rattle.edit_rules.specs.Edits.{editOf};
 ghost use Rattle.edits.specs.Calls.{editedNumber, OwnerEdits};
 ghost use Rattle.image_transfer.specs.Transfer.{loadedNumber, Reads, Writes};
-ghost use Rattle.bench.specs.Measured.{tableNumbered, lengthNumber, Numbered};
+ghost use Rattle.bench.specs.Measured.{operationNumbered, tableNumbered, lengthNumber, Numbered};
 
 fn table_numbered(n: u32) -> Table
     ensures { λ r. ⌜ r ≡ tableNumbered n ⌝ }
@@ -26,6 +26,15 @@ fn table_numbered(n: u32) -> Table
         return Table::Access;
     }
     Table::View
+}
+
+fn operation_numbered(n: u32) -> Operation
+    ensures { λ r. ⌜ r ≡ operationNumbered n ⌝ }
+{
+    if n == 0 {
+        return Operation::Put;
+    }
+    Operation::Remove
 }
 
 fn length_number(w: Written) -> u64
@@ -62,20 +71,23 @@ pub extern "C" fn bench_decide(
     ))
 }
 
-// The owner's put, by its number.
+// The owner's edit, by its number.
 #[no_mangle]
-pub extern "C" fn bench_owner_put(store: &mut [u8], table: u32, row: &[u8]) -> u32
-    ensures { λ r. ⌜ Numbered editedNumber (OwnerEdits (put (tableNumbered table) (now (row .entry))) (now (store .entry)) (now (store .exit))) r ⌝ }
+pub extern "C" fn bench_owner_edit(
+    store: &mut [u8],
+    operation: u32,
+    table: u32,
+    bytes: &[u8],
+) -> u32
+    ensures { λ r. ⌜ Numbered editedNumber (OwnerEdits (editOf (operationNumbered operation) (tableNumbered table) (now (bytes .entry)))
+        (now (store .entry)) (now (store .exit))) r ⌝ }
 {
-    edits::edited_number(edits::owner_edit(store, Operation::Put, table_numbered(table), row))
-}
-
-// The owner's removal, by its number.
-#[no_mangle]
-pub extern "C" fn bench_owner_remove(store: &mut [u8], table: u32, key: &[u8]) -> u32
-    ensures { λ r. ⌜ Numbered editedNumber (OwnerEdits (remove (tableNumbered table) (now (key .entry))) (now (store .entry)) (now (store .exit))) r ⌝ }
-{
-    edits::edited_number(edits::owner_edit(store, Operation::Remove, table_numbered(table), key))
+    edits::edited_number(edits::owner_edit(
+        store,
+        operation_numbered(operation),
+        table_numbered(table),
+        bytes,
+    ))
 }
 
 // An image read into a store, by its number.

@@ -3,10 +3,10 @@
 -- so the promise is one equation between the edit of the tables and the answer with the tables that stand afterwards (`edits-made`), which is
 -- `edit-change`. Where the answer is Done, a row put is held or has room, and a row removed is held. Assumes nothing.
 use mathlib.Core.Path.{_≡_, refl, sym, ap, ap₂, subst, _∙_}
-use mathlib.Core.Bool.{Bool, true, false, cond, not, _&&_}
+use mathlib.Core.Bool.{Bool, true, false}
 use mathlib.Core.List.{List, [], _∷_}
 use mathlib.Core.Logic.{⊎-elim}
-use mathlib.Core.Option.{none, some}
+use mathlib.Core.Option.{Option, none, some}
 use Prim.Native.Nat.{ℕ, _+_, _-_, _*_, _≤_, _<_}
 use native.Mathlib.Omega.{arith}
 use lib.Dec.{leb}
@@ -16,8 +16,10 @@ use borrow.Author.Tests.{leb-false}
 use types.Run.{OneOf}
 use denote.Enum.Declared.{tagOf}
 use Rattle.answers.specs.declared.Fault.{Fault}
-use Rattle.answers.specs.declared.Fault.the-variants.{NotSound, TableFull, RowAbsent, StorageForbids}
+use Rattle.answers.specs.declared.Fault.the-variants.{NotSound, TableFull}
 use Rattle.lists.proofs.Bools.{split, clash, is-true, cond-true, cond-false}
+use Rattle.lists.proofs.Greatest.{Ascends, ascends-map, ascends-imp}
+use Rattle.lists.proofs.Keeps.{every-all}
 use Rattle.rows.specs.declared.Table.{Table}
 use Rattle.rows.specs.declared.Table.the-variants.{Context, Mapping, Access, View}
 use Rattle.rows.specs.Fields.{faults, span}
@@ -42,10 +44,11 @@ use Rattle.rows.specs.declared.Operation.the-variants.{Put, Remove}
 use Rattle.edit_rules.specs.declared.Edited.{Edited}
 use Rattle.edit_rules.proofs.Edited.{the-type}
 use Rattle.edit_rules.specs.declared.Edited.the-variants.{Done, Barred, Faulty}
-use Rattle.edit_rules.specs.Edits.{Outcome, editOf, fieldsOf, edit, isContext}
-use Rattle.edit_rules.specs.Storage.{storageIn, StorageIn, storageAt, mayChange, absentAnswer, placeAnswer}
+use Rattle.edit_rules.specs.Edits.{Outcome, outcome, editOf, fieldsOf, faulted, edit, isContext}
+use Rattle.edit_rules.specs.TableRows.{rowOf, rowIndex, rowsOf}
+use Rattle.edit_rules.specs.Storage.{storageIn, storageAt, StorageKnown, placeFault, placed, fullAt}
 use Rattle.edit_rules.proofs.Storages.{storage-room, storage-at, held-storage}
-use Rattle.edit_rules.proofs.Outcomes.{outcome, afterwards, judged, changed, comes, tables, tables-ext, key-whole, edit-change}
+use Rattle.edit_rules.proofs.Outcomes.{afterwards, judged, changed, comes, tables, tables-ext, row-index, rows-in, key-whole, edit-change}
 use Rattle.edit_rows.specs.Promise.{answered, left, Edits, lengthIn}
 
 -- each table of a sound store lies within it
@@ -88,12 +91,28 @@ held-unsound : (w : List ℕ) → isSound w ≡ false → held w ≡ none
 unfolding held
 held-unsound w h = cond-false _ _ h
 
-pub edits-unsound : (f : Tables → Outcome Tables) (w : List ℕ) → isSound w ≡ false → Edits f w w (Faulty NotSound)
+-- the tables that a store holds are those of its rows, and they ascend
+pub held-is : (w : List ℕ) {t : Tables} → held w ≡ some t → (isSound w ≡ true) × (t ≡ tables (storeRows w))
+held-is w {t} e =
+    split (isSound w) (λ h. let q : some t ≡ some (tables (storeRows w)) = sym e ∙ held-sound w h in (h, cc))
+    (λ h. let q : some t ≡ none = sym e ∙ held-unsound w h in (cc, cc))
+
+ascends-ext : {A : Type 0} (f g : A → List ℕ) (xs : List A) → ((x : A) → f x ≡ g x) → Ascends f xs → Ascends g xs
+ascends-ext f g xs e a = ascends-imp (λ x. true) f g (λ x y p q h. rw (← (e x), ← (e y)) h) xs (every-all (λ x. true) xs (λ x. refl)) a
+
+pub held-ascends : (w : List ℕ) {t : Tables} → held w ≡ some t → (u : Table) → Ascends (rowIndex u) (rowsOf u t)
+held-ascends w e u =
+    let h = held-is w e in
+    rw (h .1, rows-in (storeRows w) u)
+    (ascends-map (rowIndex u) (rowOf u) (tableRows u w)
+    (ascends-ext _ _ (tableRows u w) (λ r. sym (row-index u r)) (sound-ascends u w (h .0))))
+
+pub edits-unsound : (f : Tables → Outcome) (w : List ℕ) → isSound w ≡ false → Edits f w w (Faulty NotSound)
 edits-unsound f w h =
     let e = held-unsound w h in
     record { answer-is = sym (ap (answered f) e); rows-are = e ∙ sym (ap (left f) e); refusal-keeps = λ n. refl }
 
-module _ (f : Tables → Outcome Tables) (w : List ℕ) (h : isSound w ≡ true) where
+module _ (f : Tables → Outcome) (w : List ℕ) (h : isSound w ≡ true) where
   edits-made : (after : List ℕ) (r : Edited) → isSound after ≡ true → f (tables (storeRows w)) ≡ outcome r (tables (storeRows after)) →
       ((r ≡ Done → ⊥) → after ≡ w)
       → Edits f w after r
@@ -107,7 +126,7 @@ module _ (f : Tables → Outcome Tables) (w : List ℕ) (h : isSound w ≡ true)
   edits-refused r e = edits-made w r h e (λ n. refl)
 
   -- by another edit that does the same to these tables
-  pub edits-same : (g : Tables → Outcome Tables) → f (tables (storeRows w)) ≡ g (tables (storeRows w)) → {after : List ℕ} {r : Edited}
+  pub edits-same : (g : Tables → Outcome) → f (tables (storeRows w)) ≡ g (tables (storeRows w)) → {after : List ℕ} {r : Edited}
       → Edits g w after r → Edits f w after r
   edits-same g e k =
       let q = held-sound w h in
@@ -122,29 +141,42 @@ module _ (f : Tables → Outcome Tables) (w : List ℕ) (h : isSound w ≡ true)
 
 -- ---- the answer at the place
 
-stays : {A : Type 0} (new old : A) (r : Edited) → (r ≡ Done → ⊥) → afterwards new old r ≡ old
+stays : (new old : Tables) (r : Edited) → (r ≡ Done → ⊥) → afterwards new old r ≡ old
 stays new old Done m = absurd (m refl)
 stays new old (Barred c) m = refl
 stays new old (Faulty g) m = refl
 
-faulty-done : {g : Fault} → Faulty g ≡ Done → ⊥
+pub faulty-done : {g : Fault} → Faulty g ≡ Done → ⊥
 faulty-done e = let z : _≡_ {A = ℕ} 0 1 = cc e in omega arith
 
 -- by the numbers of the variants
 pub not-done : (r : Edited) → OneOf (1 ∷ 2 ∷ []) (tagOf the-type r) → r ≡ Done → ⊥
 not-done r o e = let z : tagOf the-type r ≡ 0 = ap (tagOf the-type) e in ⊎-elim (λ h. omega arith) (λ h. omega arith) o
 
--- Done only where the row is held, or is put where there is room
-absent-room : (c : Operation) (n m : ℕ) → absentAnswer c n m ≡ Done → (c ≡ Put) × (m < n)
-absent-room Put n m e =
-    split (leb n m) (λ b. let z : Faulty TableFull ≡ Done = rw b at e in absurd (faulty-done z)) (λ b. (refl, leb-false n m b))
-absent-room Remove n m e = absurd (faulty-done e)
+-- as it is judged; then as there is room
+pub placed-judged : (g : Option Fault) (full : Bool) {r : Edited} → r ≡ faulted g → (r ≡ Done → ⊥) → r ≡ placed g full
+placed-judged none full e m = absurd (m e)
+placed-judged (some g) full e m = e
 
-done-room : (strict : Bool) (c : Operation) (n : ℕ) (h : Bool) (old new m : ℕ) → placeAnswer strict c n h old new m ≡ Done → h ≡ false → (c ≡ Put) × (m < n)
-done-room strict c n true old new m e f = clash refl f
-done-room strict c n false old new m e f =
-    split (strict && not (mayChange c old new)) (λ b. let z : Faulty StorageForbids ≡ Done = rw b at e in absurd (faulty-done z))
-    (λ b. absent-room c n m (rw b at e))
+pub placed-full : (g : Option Fault) {full : Bool} → faulted g ≡ Done → full ≡ true → Faulty TableFull ≡ placed g full
+placed-full none e h = rw h
+placed-full (some g) e h = absurd (faulty-done e)
+
+pub placed-room : (g : Option Fault) {full : Bool} → faulted g ≡ Done → full ≡ false → placed g full ≡ Done
+placed-room none e h = rw h
+placed-room (some g) e h = absurd (faulty-done e)
+
+placed-done : (g : Option Fault) (full : Bool) → placed g full ≡ Done → full ≡ false
+placed-done none true e = absurd (faulty-done e)
+placed-done none false e = refl
+placed-done (some g) full e = absurd (faulty-done e)
+
+-- Done only where the row is held, or is put where there is room
+done-room : (strict : Bool) (o : Operation) (h : Bool) (old new n m : ℕ) → placed (placeFault strict o h old new) (fullAt o h n m) ≡ Done → h ≡ false
+    → (o ≡ Put) × (m < n)
+done-room strict o true old new n m e f = clash refl f
+done-room strict Put false old new n m e f = (refl, leb-false n m (placed-done (placeFault strict Put false old new) (leb n m) e))
+done-room strict Remove false old new n m e f = absurd (faulty-done e)
 
 -- ---- the bytes handed: where the key ends, and what comes into the table
 
@@ -178,12 +210,18 @@ module _ (t : Table) (w : List ℕ) (h : isSound w ≡ true) (b : Octets w) (str
   abbrev rows : List (List ℕ)
   rows = tableRows t w
 
+  abbrev pub faultAt : Operation → Option Fault
+  faultAt c = placeFault strict c (p .present) (storageAt w p) (storageIn bytes)
+
+  abbrev pub fullHere : Operation → Bool
+  fullHere c = fullAt c (p .present) (limit t) (extentOf t (layoutOf w) .count)
+
   abbrev pub answerAt : Operation → Edited
-  answerAt c = placeAnswer strict c (limit t) (p .present) (storageAt w p) (storageIn bytes) (extentOf t (layoutOf w) .count)
+  answerAt c = placed (faultAt c) (fullHere c)
 
   -- where the row is not held, the answer Done is of a put, and there is room
   absent-done : (c : Operation) → answerAt c ≡ Done → p .present ≡ false → (c ≡ Put) × (extentOf t (layoutOf w) .count < limit t)
-  absent-done c e = done-room strict c (limit t) (p .present) (storageAt w p) (storageIn bytes) (extentOf t (layoutOf w) .count) e
+  absent-done c e = done-room strict c (p .present) (storageAt w p) (storageIn bytes) (limit t) (extentOf t (layoutOf w) .count) e
 
   room-left : answerAt Put ≡ Done → isHeld key rows ≡ false → length rows < limit t
   room-left e m = omega (arith, absent-done Put e (s .present-is ∙ m) .1, length-rows w (extentOf t (layoutOf w)))
@@ -210,12 +248,11 @@ module _ (t : Table) (w : List ℕ) (h : isSound w ≡ true) (b : Octets w) (str
         (rw (storage-at s, s .present-is, length-rows w (extentOf t (layoutOf w))))
 
     -- what answering asks
-    pub storage-known : strict ≡ true → StorageIn w p × (c ≡ Put → 2 ≤ length bytes)
-    storage-known y = (
-      held-storage s t (n y) (table-inside t w h) (sound-whole t w h b),
-      λ e. storage-room t (n y) bytes
-          (subst (λ k. faults (fieldsOf k t) bytes ≡ none) e f),
-    )
+    pub storage-known : strict ≡ true → StorageKnown c w p bytes
+    storage-known y = record {
+      of-held = held-storage s t (n y) (table-inside t w h) (sound-whole t w h b);
+      of-put = λ e. storage-room t (n y) bytes (subst (λ k. faults (fieldsOf k t) bytes ≡ none) e f);
+    }
 
     pub change-refused : (r : Edited) → r ≡ answerAt c → (r ≡ Done → ⊥) → Edits (λ ts. edit strict ts (editOf c t bytes)) w w r
     change-refused r e m =

@@ -10,50 +10,60 @@ ghost use mathlib.Core.Bool.{true, false};
 ghost use mathlib.Core.Option.{none};
 ghost use Prim.Native.Nat.{_≤_};
 ghost use lib.ListN.{length};
-ghost use Rattle.rows.specs.Fields.{faults, span};
-ghost use Rattle.rows.specs.Rows.{keyFields, limit};
-ghost use Rattle.image_layout.specs.Layout.{layoutOf};
-ghost use Rattle.image.specs.Store.{isSound};
-ghost use Rattle.rows.specs.declared.Operation.the-variants.{Put};
-ghost use Rattle.edit_rules.specs.Edits.{edit, editOf, fieldsOf, isContext};
-ghost use Rattle.edit_rules.specs.Storage.{storageIn, StorageIn, storageAt, absentAnswer, placeAnswer};
-ghost use Rattle.edit_rows.specs.Promise.{Edits, lengthIn};
+ghost use Rattle.rows.specs.Rows.{limit};
+ghost use Rattle.edit_rules.specs.Edits.{edit, editOf, faulted, absentFault, comesIn};
+ghost use Rattle.edit_rules.specs.Storage.{storageIn, storageAt, StorageKnown, placeFault, fullAt};
+ghost use Rattle.edit_rows.specs.Promise.{Edits, Editable, Handed, lengthIn};
 
-// The change of a row that is not held, in a table of so many rows.
-fn absent_answer(c: Operation, t: Table, count: usize) -> Edited
-    ensures { λ r. ⌜ r ≡ absentAnswer c (limit t) count ⌝ }
+// A removal is of a row that is held.
+fn judge_presence(c: Operation, present: bool) -> Edited
+    ensures { λ r. ⌜ r ≡ faulted (absentFault c present) ⌝ }
 {
-    if let Operation::Remove = c {
-        return Edited::Faulty(Fault::RowAbsent);
+    match c {
+        Operation::Put => Edited::Done,
+        Operation::Remove => {
+            if present {
+                return Edited::Done;
+            }
+            Edited::Faulty(Fault::RowAbsent)
+        }
     }
-    if rows::limit(t) <= count {
-        return Edited::Faulty(Fault::TableFull);
-    }
-    Edited::Done
 }
 
-// Strict: by a principal, to whom the storage rules apply.
-fn place_answer(
-    w: &[u8],
-    strict: bool,
-    c: Operation,
-    t: Table,
-    count: usize,
-    p: Place,
-    bytes: &[u8],
-) -> Edited
-    requires { ⌜ (strict ≡ true → StorageIn (now w) p × (c ≡ Put → 2 ≤ length (now bytes))) ⌝ }
-    ensures { λ r. ⌜ r ≡ placeAnswer strict c (limit t) (p .present) (storageAt (now (w .entry)) p) (storageIn (now (bytes .entry))) count ⌝ }
+// What stands against an edit at the place of its key, if anything does. Strict: by a principal, to whom the storage rules apply.
+pub fn judge_place(w: &[u8], strict: bool, c: Operation, p: Place, bytes: &[u8]) -> Edited
+    requires { ⌜ (strict ≡ true → StorageKnown c (now w) p (now bytes)) ⌝ }
+    ensures { λ r. ⌜ r ≡ faulted (placeFault strict c (p .present) (storageAt (now (w .entry)) p) (storageIn (now (bytes .entry)))) ⌝ }
 {
+    let judged = judge_presence(c, p.present);
+    let Edited::Done = judged else {
+        return judged;
+    };
     if strict {
         if !edit_rules::may_change(w, c, p, bytes) {
             return Edited::Faulty(Fault::StorageForbids);
         }
     }
-    if p.present {
-        return Edited::Done;
+    Edited::Done
+}
+
+fn comes_in(c: Operation, present: bool) -> bool
+    ensures { λ r. ⌜ r ≡ comesIn c present ⌝ }
+{
+    match c {
+        Operation::Put => !present,
+        Operation::Remove => false,
     }
-    absent_answer(c, t, count)
+}
+
+// Whether an edit would bring a further row into a table that has as many as it may.
+pub fn is_full(c: Operation, t: Table, present: bool, count: usize) -> bool
+    ensures { λ r. ⌜ r ≡ fullAt c present (limit t) count ⌝ }
+{
+    if !comes_in(c, present) {
+        return false;
+    }
+    rows::limit(t) <= count
 }
 
 fn length_in(c: Operation, n: usize) -> usize
@@ -75,16 +85,19 @@ pub fn change(
     bytes: &[u8],
     key: usize,
 ) -> Edited
-    requires { ⌜ (isSound (now w) ≡ true) × (l ≡ layoutOf (now w)) × (strict ≡ true → isContext t ≡ false) ⌝ }
-    requires { ⌜ (faults (fieldsOf c t) (now bytes) ≡ none) × (key ≡ span (keyFields t) (now bytes)) ⌝ }
+    requires { ⌜ Editable strict t (now w) l ⌝ }
+    requires { ⌜ Handed c t (now bytes) key ⌝ }
     ensures { λ r. ⌜ Edits (λ rows. edit strict rows (editOf c t (now (bytes .entry)))) (now (w .entry)) (now (w .exit)) r ⌝ }
 {
     let x = table_update::extent_of(l, t);
     let p = table_update::seek(w, x, &bytes[0..key]);
-    let answer = place_answer(w, strict, c, t, x.count, p, bytes);
-    let Edited::Done = answer else {
-        return answer;
+    let judged = judge_place(w, strict, c, p, bytes);
+    let Edited::Done = judged else {
+        return judged;
     };
+    if is_full(c, t, p.present, x.count) {
+        return Edited::Faulty(Fault::TableFull);
+    }
     let views = l.views;
     let end = image_layout::end_of(w, views);
     let n = length_in(c, bytes.len());

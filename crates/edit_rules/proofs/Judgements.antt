@@ -30,7 +30,7 @@ use Rattle.table_update.proofs.Stores.{rowKey}
 use Rattle.instance_encode.specs.Instances.{instance, statusColumn, encodeFault, written, Encodes}
 use Rattle.rows.specs.declared.Operation.{Operation}
 use Rattle.rows.specs.declared.Operation.the-variants.{Put, Remove}
-use Rattle.edit_rules.specs.Edits.{Caller, put, remove, editOf, fieldsOf, indexOfEdit, judgement}
+use Rattle.edit_rules.specs.Edits.{Caller, editOf, fieldsOf, indexOfEdit, judgement}
 use Rattle.edit_rules.proofs.Outcomes.{key-whole}
 
 -- ---- the key at the front of what is handed
@@ -45,7 +45,7 @@ module _ (t : Table) (row : List ℕ) (b : Octets row) (f : faults (rowFields t)
   front-whole : faults (keyFields t) (rowKey t row) ≡ none
   front-whole = rw (← front-bytes) (faults-made (keyFields t) (values (keyFields t) row) front-legal)
 
-  front-index : indexOfEdit (remove t (rowKey t row)) ≡ indexOfEdit (put t row)
+  front-index : indexOfEdit (editOf Remove t (rowKey t row)) ≡ indexOfEdit (editOf Put t row)
   unfolding indexOfEdit
   front-index = ap (index (keyFields t)) (ap (values (keyFields t)) (sym front-bytes) ∙ values-made (keyFields t) (values (keyFields t) row) front-legal)
 
@@ -58,12 +58,12 @@ key-legal Remove t bytes b f = rw (key-whole t bytes f) f
 
 -- an edit is judged as the removal of its key
 pub key-judged : (c : Operation) (t : Table) (bytes : List ℕ) → Octets bytes → faults (fieldsOf c t) bytes ≡ none → (tables : Tables) (who : Caller)
-    → judgement tables who (remove t (rowKey t bytes)) ≡ judgement tables who (editOf c t bytes)
+    → judgement tables who (editOf Remove t (rowKey t bytes)) ≡ judgement tables who (editOf c t bytes)
 unfolding judgement
 key-judged Put t bytes b f tables who =
     ap (λ i. decision tables (asked (who .securityModel) (who .securityName) (who .securityLevel) write [] (instance t (statusColumn t) i)))
     (front-index t bytes b f)
-key-judged Remove t bytes b f tables who = ap (λ k. judgement tables who (remove t k)) (key-whole t bytes f)
+key-judged Remove t bytes b f tables who = ap (λ k. judgement tables who (editOf Remove t k)) (key-whole t bytes f)
 
 -- ---- the instance is short
 
@@ -143,6 +143,6 @@ module _ (t : Table) (key : List ℕ) (f : faults (keyFields t) key ≡ none) {c
 
 -- and judging there is the judgement
 pub judged-at : (tables : Tables) (c : Caller) (t : Table) (key : List ℕ) {v : List ℕ} → v ≡ instance t (statusColumn t) (indexOf t key)
-    → decision tables (asked (c .securityModel) (c .securityName) (c .securityLevel) write [] v) ≡ judgement tables c (remove t key)
+    → decision tables (asked (c .securityModel) (c .securityName) (c .securityLevel) write [] v) ≡ judgement tables c (editOf Remove t key)
 unfolding judgement indexOfEdit
 judged-at tables c t key e = ap (λ i. decision tables (asked (c .securityModel) (c .securityName) (c .securityLevel) write [] i)) e

@@ -1,16 +1,17 @@
--- Edits of the rows held (document 01, "Edits" and "Where each number is met"): what they are, the storage rules, what they are answered and
--- leave, who makes them and how a principal's are judged. Assumes nothing.
+-- Edits of the rows held (document 01, "Edits" and "Where each number is met"): what they are, the storage rules, how they are judged by the row
+-- held, room, what they leave; who makes them, and how the tables judge a principal's. Assumes nothing.
 use mathlib.Core.Bool.{Bool, true, false, cond, not, _&&_, _||_}
 use mathlib.Core.List.{List, [], _∷_}
-use mathlib.Core.Option.{Option, none, some}
+use mathlib.Core.Option.{Option, none, some, Option·map}
 use Prim.Native.Nat.{ℕ}
 use lib.Dec.{eqb, leb}
 use lib.ListN.{length}
 use Rattle.answers.specs.declared.Decision.{Decision}
+use Rattle.answers.specs.declared.Fault.{Fault}
 use Rattle.answers.specs.declared.Fault.the-variants.{TableFull, RowAbsent, StorageForbids}
 use Rattle.rows.specs.declared.Table.{Table}
 use Rattle.rows.specs.declared.Table.the-variants.{Context, Mapping, Access, View}
-use Rattle.rows.specs.Fields.{Field, faults, values, index, within}
+use Rattle.rows.specs.Fields.{Field, faults, orElse, within}
 use Rattle.rows.specs.Rows.{keyFields, rowFields, limit, modelMax, indexOf}
 use Rattle.rows.specs.Tables.{Tables}
 use Rattle.lists.specs.Lists.{isNone}
@@ -19,43 +20,39 @@ use Rattle.decision_steps.specs.Decision.{decision}
 use Rattle.rows.specs.declared.Operation.{Operation}
 use Rattle.rows.specs.declared.Operation.the-variants.{Put, Remove}
 use Rattle.edit_rules.specs.declared.Edited.{Edited}
-use Rattle.edit_rules.specs.declared.Edited.the-variants.{Done, Faulty}
+use Rattle.edit_rules.specs.declared.Edited.the-variants.{Done, Barred, Faulty}
 use Rattle.edit_rules.specs.TableRows.{permanent, readOnly, RowOf, rowOf, rowIndex, storageOf, rowsOf, withRows}
 use Rattle.table_update.specs.Tables.{rowAt, putRow, removeRow}
 use Rattle.instance_encode.specs.Instances.{instance, statusColumn}
 
--- ---- edits, as they are handed: a table with a row's bytes, or with a key's bytes, in the form of the image
+-- ---- edits, as they are handed: an operation on a table, with a row's bytes or a key's, in the form of the image
 
-pub data Edit : Type 0 where
-  put : Table → List ℕ → Edit
-  remove : Table → List ℕ → Edit
+pub record Edit : Type 0 where
+  pub operation : Operation
+  pub table : Table
+  pub bytes : List ℕ
 
-abbrev pub tableOf : Edit → Table
-tableOf (put t row) = t
-tableOf (remove t key) = t
-
-abbrev pub handed : Edit → List ℕ
-handed (put t row) = row
-handed (remove t key) = key
-
--- the index of the row that an edit is of
-unfoldable pub indexOfEdit : Edit → List ℕ
-indexOfEdit e = indexOf (tableOf e) (handed e)
-
--- whole bytes, each field in range
-unfoldable pub legalEdit : Edit → Bool
-legalEdit (put t row) = isNone (faults (rowFields t) row)
-legalEdit (remove t key) = isNone (faults (keyFields t) key)
-
--- as the code has it: a change of a row of a table, by bytes
 abbrev pub editOf : Operation → Table → List ℕ → Edit
-editOf Put t bytes = put t bytes
-editOf Remove t bytes = remove t bytes
+editOf o t bytes = record { operation = o; table = t; bytes = bytes }
 
--- the fields of what it is handed
+-- the fields of what is handed: a row is put, the row of a key is removed
 abbrev pub fieldsOf : Operation → Table → List Field
 fieldsOf Put t = rowFields t
 fieldsOf Remove t = keyFields t
+
+-- whole bytes, each field in range
+unfoldable pub legalEdit : Edit → Bool
+legalEdit e = isNone (faults (fieldsOf (e .operation) (e .table)) (e .bytes))
+
+-- the index of the row that an edit is of, and that row among those held
+unfoldable pub indexOfEdit : Edit → List ℕ
+indexOfEdit e = indexOf (e .table) (e .bytes)
+
+abbrev pub rowHeld : Tables → (e : Edit) → Option (RowOf (e .table))
+rowHeld ts e = rowAt (rowIndex (e .table)) (indexOfEdit e) (rowsOf (e .table) ts)
+
+abbrev pub isPresent : Tables → Edit → Bool
+isPresent ts e = not (isNone (rowHeld ts e))
 
 -- ---- storage
 
@@ -71,44 +68,71 @@ mayPut (some old) new = not (eqb old readOnly) && cond (eqb old permanent) (eqb 
 unfoldable pub mayRemove : ℕ → Bool
 mayRemove old = not (isFixed old)
 
--- ---- one table's edit: what is answered, and the rows that stand afterwards
+-- by the storage of the row held, if one is, and that of the row put
+abbrev pub storageLets : Operation → Option ℕ → ℕ → Bool
+storageLets Put old new = mayPut old new
+storageLets Remove none new = true
+storageLets Remove (some old) new = mayRemove old
 
-pub record Outcome (R : Type 0) : Type 0 where
-  pub answer : Edited
-  pub rows : R
+-- ---- an edit judged by the row held, if one is: 10, then 11
 
-module _ {R : Type 0} (indexOf : R → List ℕ) (storageOf : R → ℕ) (limit : ℕ) where
-  -- 11 before 9; rows out of service take room too
-  abbrev pub putOver : Option R → Bool → R → List R → Outcome (List R)
-  putOver none strict r rs =
-      cond (strict && not (mayPut none (storageOf r))) (record { answer = Faulty StorageForbids; rows = rs })
-      (cond (leb limit (length rs)) (record { answer = Faulty TableFull; rows = rs }) (record { answer = Done; rows = putRow indexOf r rs }))
-  putOver (some old) strict r rs =
-      cond (strict && not (mayPut (some (storageOf old)) (storageOf r))) (record { answer = Faulty StorageForbids; rows = rs })
-      (record { answer = Done; rows = putRow indexOf r rs })
-
-  -- 10 before 11
-  abbrev pub removeOver : Option R → Bool → List ℕ → List R → Outcome (List R)
-  removeOver none strict i rs = record { answer = Faulty RowAbsent; rows = rs }
-  removeOver (some old) strict i rs =
-      cond (strict && not (mayRemove (storageOf old))) (record { answer = Faulty StorageForbids; rows = rs })
-      (record { answer = Done; rows = removeRow indexOf i rs })
-
-  unfoldable pub puts : Bool → R → List R → Outcome (List R)
-  puts strict r rs = putOver (rowAt indexOf (indexOf r) rs) strict r rs
-
-  unfoldable pub removes : Bool → List ℕ → List R → Outcome (List R)
-  removes strict i rs = removeOver (rowAt indexOf i rs) strict i rs
-
--- ---- an edit of the four tables: the others stay
-
-abbrev pub inTable : (t : Table) → Tables → Outcome (List (RowOf t)) → Outcome Tables
-inTable t ts o = record { answer = o .answer; rows = withRows t ts (o .rows) }
+-- a removal is of a row that is held
+abbrev pub absentFault : Operation → Bool → Option Fault
+absentFault Put held = none
+absentFault Remove true = none
+absentFault Remove false = some RowAbsent
 
 -- strict: by a principal, to whom the storage rules apply
-unfoldable pub edit : Bool → Tables → Edit → Outcome Tables
-edit strict ts (put t row) = inTable t ts (puts (rowIndex t) (storageOf t) (limit t) strict (rowOf t row) (rowsOf t ts))
-edit strict ts (remove t key) = inTable t ts (removes (rowIndex t) (storageOf t) (limit t) strict (indexOfEdit (remove t key)) (rowsOf t ts))
+abbrev pub heldFault : Bool → Operation → Option ℕ → ℕ → Option Fault
+heldFault strict o old new =
+    orElse (absentFault o (not (isNone old))) (cond (strict && not (storageLets o old new)) (some StorageForbids) none)
+
+unfoldable pub rowFault : Bool → Tables → Edit → Option Fault
+rowFault strict ts e =
+    heldFault strict (e .operation) (Option·map (storageOf (e .table)) (rowHeld ts e)) (storageOf (e .table) (rowOf (e .table) (e .bytes)))
+
+-- ---- room: 9 where a row that is not held would come into a table with as many rows as it may have; rows out of service take room too
+
+abbrev pub comesIn : Operation → Bool → Bool
+comesIn Put held = not held
+comesIn Remove held = false
+
+unfoldable pub isFull : Tables → Edit → Bool
+isFull ts e = comesIn (e .operation) (isPresent ts e) && leb (limit (e .table)) (length (rowsOf (e .table) ts))
+
+-- ---- an edit applied: the row put or gone, the other tables as they were
+
+abbrev pub rowsAfter : {R : Type 0} → (R → List ℕ) → Operation → R → List ℕ → List R → List R
+rowsAfter indexOf Put r i rs = putRow indexOf r rs
+rowsAfter indexOf Remove r i rs = removeRow indexOf i rs
+
+unfoldable pub applied : Tables → Edit → Tables
+applied ts e =
+    withRows (e .table) ts
+    (rowsAfter (rowIndex (e .table)) (e .operation) (rowOf (e .table) (e .bytes)) (indexOfEdit e) (rowsOf (e .table) ts))
+
+-- ---- what is answered, and the tables that stand afterwards
+
+pub record Outcome : Type 0 where
+  pub answer : Edited
+  pub rows : Tables
+
+abbrev pub outcome : Edited → Tables → Outcome
+outcome r ts = record { answer = r; rows = ts }
+
+-- as an edit is judged, Done where nothing stands against it; then room; then it is applied. A refusal changes nothing.
+abbrev pub settled : Edited → Tables → Edit → Outcome
+settled Done ts e = cond (isFull ts e) (outcome (Faulty TableFull) ts) (outcome Done (applied ts e))
+settled (Barred c) ts e = outcome (Barred c) ts
+settled (Faulty f) ts e = outcome (Faulty f) ts
+
+abbrev pub faulted : Option Fault → Edited
+faulted none = Done
+faulted (some f) = Faulty f
+
+-- an edit whose bytes are legal and that the tables let be made
+unfoldable pub edit : Bool → Tables → Edit → Outcome
+edit strict ts e = settled (faulted (rowFault strict ts e)) ts e
 
 -- ---- who edits
 
@@ -127,7 +151,7 @@ legalCaller c = within 1 modelMax (c .securityModel) && within 1 longestName (le
 unfoldable pub judgement : Tables → Caller → Edit → Decision
 judgement t c e =
     decision t
-    (asked (c .securityModel) (c .securityName) (c .securityLevel) write [] (instance (tableOf e) (statusColumn (tableOf e)) (indexOfEdit e)))
+    (asked (c .securityModel) (c .securityName) (c .securityLevel) write [] (instance (e .table) (statusColumn (e .table)) (indexOfEdit e)))
 
 abbrev pub isContext : Table → Bool
 isContext Context = true

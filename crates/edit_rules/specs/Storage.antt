@@ -1,20 +1,21 @@
--- The storage of a row where its bytes lie, and of the row held at a place; whether it lets a principal change the row, and what a change is
--- answered at its place. Assumes nothing.
+-- The storage of a row where its bytes lie, and of the row held at a place; what stands against an edit at the place of its key. Assumes nothing.
 use mathlib.Core.Path.{_≡_}
 use mathlib.Core.Bool.{Bool, true, cond, not, _&&_}
 use mathlib.Core.List.{List}
-use mathlib.Core.Option.{some}
+use mathlib.Core.Option.{Option, none, some}
 use Prim.Native.Nat.{ℕ, _+_, _-_, _≤_}
 use lib.Dec.{leb}
 use lib.ListN.{length, take, drop, getD}
-use Rattle.answers.specs.declared.Fault.the-variants.{TableFull, RowAbsent, StorageForbids}
+use Rattle.answers.specs.declared.Fault.{Fault}
+use Rattle.answers.specs.declared.Fault.the-variants.{TableFull, StorageForbids}
+use Rattle.rows.specs.Fields.{orElse}
 use Rattle.table_update.specs.declared.Place.{Place}
 use Rattle.rows.specs.declared.Operation.{Operation}
 use Rattle.rows.specs.declared.Operation.the-variants.{Put, Remove}
 use Rattle.edit_rules.specs.declared.Edited.{Edited}
 use Rattle.edit_rules.specs.declared.Edited.the-variants.{Done, Faulty}
 use Rattle.edit_rules.specs.TableRows.{volatile}
-use Rattle.edit_rules.specs.Edits.{mayPut, mayRemove}
+use Rattle.edit_rules.specs.Edits.{mayPut, mayRemove, absentFault, comesIn}
 
 -- the last octet but one of a mapping, access or view row
 abbrev pub storageIn : List ℕ → ℕ
@@ -23,6 +24,11 @@ storageIn row = getD row (length row - 2) 0
 -- the row held at a place lies within w and has such an octet
 abbrev pub StorageIn : List ℕ → Place → Type 0
 StorageIn w p = p .present ≡ true → (p .from + 2 ≤ p .end) × (p .end ≤ length w)
+
+-- what a rule of storage reads is there: the storage of the row held, and of the row put
+pub record StorageKnown (o : Operation) (w : List ℕ) (p : Place) (bytes : List ℕ) : Type 0 where
+  pub of-held : StorageIn w p
+  pub of-put : o ≡ Put → 2 ≤ length bytes
 
 -- where none is held, volatile, which lets everything be done that may be done where there is no row
 abbrev pub storageAt : List ℕ → Place → ℕ
@@ -33,12 +39,14 @@ abbrev pub mayChange : Operation → ℕ → ℕ → Bool
 mayChange Put old new = mayPut (some old) new
 mayChange Remove old new = mayRemove old
 
--- what the change of a row that is not held is answered, in a table of so many rows
-abbrev pub absentAnswer : Operation → ℕ → ℕ → Edited
-absentAnswer Put limit count = cond (leb limit count) (Faulty TableFull) Done
-absentAnswer Remove limit count = Faulty RowAbsent
+-- what stands against an edit at the place of its key: 10, then 11
+abbrev pub placeFault : Bool → Operation → Bool → ℕ → ℕ → Option Fault
+placeFault strict o present old new = orElse (absentFault o present) (cond (strict && not (mayChange o old new)) (some StorageForbids) none)
 
--- what a change is answered at its place: 11 before 9 and 10, which only a row that is not held is answered
-abbrev pub placeAnswer : Bool → Operation → ℕ → Bool → ℕ → ℕ → ℕ → Edited
-placeAnswer strict c limit present old new count =
-    cond (strict && not (mayChange c old new)) (Faulty StorageForbids) (cond present Done (absentAnswer c limit count))
+-- then 9, in a table of so many rows
+abbrev pub placed : Option Fault → Bool → Edited
+placed (some f) full = Faulty f
+placed none full = cond full (Faulty TableFull) Done
+
+abbrev pub fullAt : Operation → Bool → ℕ → ℕ → Bool
+fullAt o present limit count = comesIn o present && leb limit count

@@ -21,7 +21,13 @@ rowOf Mapping bytes = mappingOf bytes
 rowOf Access bytes = accessOf bytes
 rowOf View bytes = viewOf bytes
 
--- ---- indices of rows
+-- ---- a row's fields, and its index
+
+abbrev pub valuesOf : (t : Table) → RowOf t → List (List ℕ)
+valuesOf Context r = contextFields r
+valuesOf Mapping r = mappingFields r
+valuesOf Access r = accessFields r
+valuesOf View r = viewFields r
 
 abbrev pub contextIndex : ContextRow → List ℕ
 contextIndex r = index contextKey (contextFields r)

@@ -12,10 +12,10 @@ ghost use mathlib.Core.Path.{_≡_};
 ghost use mathlib.Core.Option.{some, none};
 ghost use Prim.Native.Nat.{_≤_};
 ghost use lib.ListN.{length};
-ghost use Rattle.edit_rules.specs.Edits.{isFixed, mayPut, remove, legalCaller, callerOf, judgement, isContext};
+ghost use Rattle.edit_rules.specs.Edits.{isFixed, mayPut, editOf, legalCaller, callerOf, judgement, isContext};
 ghost use Rattle.decision_steps.specs.Request.{write, asked};
-ghost use Rattle.edit_rules.specs.Storage.{storageIn, StorageIn, storageAt, mayChange};
-ghost use Rattle.rows.specs.declared.Operation.the-variants.{Put};
+ghost use Rattle.edit_rules.specs.Storage.{storageIn, StorageIn, storageAt, StorageKnown, mayChange};
+ghost use Rattle.rows.specs.declared.Operation.the-variants.{Remove};
 ghost use mathlib.Core.List.{[]};
 ghost use Rattle.rows.specs.Fields.{faults};
 ghost use Rattle.rows.specs.Rows.{keyFields};
@@ -82,7 +82,7 @@ fn may_replace(old: u8, new: u8) -> bool
 
 // The storage of the row held, and of the row put, lets a principal make the change.
 pub fn may_change(w: &[u8], c: Operation, p: Place, bytes: &[u8]) -> bool
-    requires { ⌜ StorageIn (now w) p × (c ≡ Put → 2 ≤ length (now bytes)) ⌝ }
+    requires { ⌜ StorageKnown c (now w) p (now bytes) ⌝ }
     ensures { λ r. ⌜ r ≡ mayChange c (storageAt (now (w .entry)) p) (storageIn (now (bytes .entry))) ⌝ }
 {
     let old = held_storage(w, p);
@@ -171,7 +171,7 @@ fn judge_edit(
 ) -> Decision
     requires { ⌜ SoundLayout (now w) l × (faults (keyFields t) (now key) ≡ none) ⌝ }
     ensures { λ r. ⌜ r ≡ judgement (tablesAt (now (w .entry)) l) (callerOf «security_model» (now («security_name» .entry)) «security_level»)
-        (remove t (now (key .entry))) ⌝ }
+        (editOf Remove t (now (key .entry))) ⌝ }
 {
     let mut parts = [0u32; 128];
     let written = instance_encode::encode(t, status_column(t), key, &mut parts);
@@ -206,7 +206,7 @@ pub fn admit(
 ) -> Admission
     requires { ⌜ SoundLayout (now w) l × (faults (keyFields t) (now key) ≡ none) ⌝ }
     ensures { λ r. ⌜ r ≡ admission (isContext t) (judgement (tablesAt (now (w .entry)) l)
-        (callerOf «security_model» (now («security_name» .entry)) «security_level») (remove t (now (key .entry)))) ⌝ }
+        (callerOf «security_model» (now («security_name» .entry)) «security_level») (editOf Remove t (now (key .entry)))) ⌝ }
 {
     if is_context(t) {
         return Admission::Denied(Edited::Faulty(Fault::ContextTable));

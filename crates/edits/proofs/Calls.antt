@@ -23,12 +23,11 @@ use Rattle.image_layout.specs.Layout.{layoutOf}
 use Rattle.image_judge.specs.Faults.{tablesAt}
 use Rattle.image.specs.Store.{isSound}
 use Rattle.rows.specs.declared.Operation.{Operation}
-use Rattle.rows.specs.declared.Operation.the-variants.{Put, Remove}
 use Rattle.edit_rules.specs.declared.Edited.{Edited}
 use Rattle.edit_rules.specs.declared.Edited.the-variants.{Barred, Faulty}
-use Rattle.edit_rules.specs.Edits.{Edit, Caller, tableOf, editOf, fieldsOf, edit, legalCaller, legalEdit, judgement, isContext, Outcome}
-use Rattle.edits.specs.Calls.{refused, allowed, ownerEdit, principalEdit, OwnerEdits, PrincipalEdits, prepared}
-use Rattle.edit_rules.proofs.Outcomes.{outcome, tables}
+use Rattle.edit_rules.specs.Edits.{Edit, Caller, editOf, fieldsOf, edit, legalCaller, legalEdit, judgement, isContext, Outcome, outcome, rowFault, faulted, settled}
+use Rattle.edits.specs.Calls.{allowed, ownerJudged, principalJudged, ownerEdit, principalEdit, OwnerEdits, PrincipalEdits, prepared}
+use Rattle.edit_rules.proofs.Outcomes.{tables}
 use Rattle.edit_rows.specs.Promise.{Edits}
 use Rattle.edit_rows.proofs.Stores.{storeRows, edits-unsound, edits-refused, edits-same}
 use Rattle.edit_rules.specs.declared.Admission.the-variants.{Granted, Denied}
@@ -39,16 +38,11 @@ use Rattle.edits.specs.declared.Prepared.the-variants.{Ready, Unready}
 
 pub legal-is : (c : Operation) (t : Table) (bytes : List ℕ) → legalEdit (editOf c t bytes) ≡ isNone (faults (fieldsOf c t) bytes)
 unfolding legalEdit
-legal-is Put t bytes = refl
-legal-is Remove t bytes = refl
+legal-is c t bytes = refl
 
 none-is : (o : Option Fault) → isNone o ≡ true → o ≡ none
 none-is none e = refl
 none-is (some f) e = cc
-
-pub table-is : (c : Operation) (t : Table) (bytes : List ℕ) → tableOf (editOf c t bytes) ≡ t
-table-is Put t bytes = refl
-table-is Remove t bytes = refl
 
 -- ---- what both kinds of call begin with
 
@@ -77,7 +71,7 @@ module _ (c : Operation) (t : Table) (w bytes : List ℕ) where
   prepared-ready a f q e = rw (a, legal-is c t bytes, f, q, e)
 
   -- by any edit that refuses what is not legal
-  unready : (f : Tables → Outcome Tables) → (legalEdit (editOf c t bytes) ≡ false → (ts : Tables) → f ts ≡ outcome (Faulty OutOfRange) ts)
+  unready : (f : Tables → Outcome) → (legalEdit (editOf c t bytes) ≡ false → (ts : Tables) → f ts ≡ outcome (Faulty OutOfRange) ts)
       → {g : Fault} → Unready g ≡ prepared w c t bytes → Edits f w w (Faulty g)
   unready f m {g} e =
       split (isSound w)
@@ -86,19 +80,20 @@ module _ (c : Operation) (t : Table) (w bytes : List ℕ) where
       (λ a. let z : g ≡ NotSound = cc (rw a at e) in rw z (edits-unsound f w a))
 
   pub unready-owner : {g : Fault} → Unready g ≡ prepared w c t bytes → OwnerEdits (editOf c t bytes) w w (Faulty g)
-  unfolding ownerEdit
-  unready-owner e = unready (λ ts. ownerEdit ts (editOf c t bytes)) (λ b ts. cond-false _ _ b) e
+  unfolding ownerEdit ownerJudged
+  unready-owner e = unready (λ ts. ownerEdit ts (editOf c t bytes)) (λ b ts. rw b) e
 
   pub unready-principal : (who : Caller) {g : Fault} → Unready g ≡ prepared w c t bytes → PrincipalEdits who (editOf c t bytes) w w (Faulty g)
-  unfolding principalEdit
+  unfolding principalEdit principalJudged
   unready-principal who e =
-      unready (λ ts. principalEdit ts who (editOf c t bytes)) (λ b ts. cond-false _ _ (and-false-right (legalCaller who) b)) e
+      unready (λ ts. principalEdit ts who (editOf c t bytes)) (λ b ts. rw (and-false-right (legalCaller who) b)) e
 
 -- ---- the owner's edit is the edit, of what is legal
 
 pub owner-legal : (e : Edit) (w : List ℕ) {after : List ℕ} {r : Edited} → legalEdit e ≡ true → Edits (λ ts. edit false ts e) w after r → OwnerEdits e w after r
-unfolding ownerEdit
-owner-legal e w {after} {r} l k = subst (λ b. Edits (λ ts. cond b (edit false ts e) (refused (Faulty OutOfRange) ts)) w after r) (sym l) k
+unfolding ownerEdit ownerJudged edit
+owner-legal e w {after} {r} l k =
+    subst (λ b. Edits (λ ts. settled (cond b (faulted (rowFault false ts e)) (Faulty OutOfRange)) ts e) w after r) (sym l) k
 
 -- ---- admission
 
@@ -106,38 +101,53 @@ pub granted-free : (b : Bool) (j : Decision) → Granted ≡ admission b j → b
 granted-free true j a = cc
 granted-free false j a = refl
 
-module _ (t : Tables) (e : Edit) where
-  granted-is : (b : Bool) (j : Decision) → Granted ≡ admission b j → cond b (refused (Faulty ContextTable) t) (allowed j t e) ≡ edit true t e
+module _ (v : Edited) where
+  granted-is : (b : Bool) (j : Decision) → Granted ≡ admission b j → cond b (Faulty ContextTable) (allowed j v) ≡ v
   granted-is true j a = cc
   granted-is false Allowed a = refl
   granted-is false (Refused x) a = cc
 
-  denied-is : (b : Bool) (j : Decision) {r : Edited} → Denied r ≡ admission b j → cond b (refused (Faulty ContextTable) t) (allowed j t e) ≡ outcome r t
-  denied-is true j {r} a = let z : Faulty ContextTable ≡ r = cc in ap (λ u. outcome u t) z
+  denied-is : (b : Bool) (j : Decision) {r : Edited} → Denied r ≡ admission b j → cond b (Faulty ContextTable) (allowed j v) ≡ r
+  denied-is true j a = cc
   denied-is false Allowed a = cc
-  denied-is false (Refused x) {r} a = let z : Barred x ≡ r = cc in ap (λ u. outcome u t) z
+  denied-is false (Refused x) a = cc
+
+-- a denial is no edit made
+denied-settled : (b : Bool) (j : Decision) {r : Edited} → Denied r ≡ admission b j → (ts : Tables) (e : Edit) → settled r ts e ≡ outcome r ts
+denied-settled true j {r} a ts e = let z : Faulty ContextTable ≡ r = cc in rw (← z)
+denied-settled false Allowed a ts e = cc
+denied-settled false (Refused x) {r} a ts e = let z : Barred x ≡ r = cc in rw (← z)
 
 -- ---- a principal's edit of a sound store, by what is legal
 
 module _ (who : Caller) (e : Edit) (w : List ℕ) (h : isSound w ≡ true) where
   pub caller-illegal : legalCaller who ≡ false → PrincipalEdits who e w w (Faulty OutOfRange)
-  unfolding principalEdit
-  caller-illegal n = edits-refused (λ t. principalEdit t who e) w h (Faulty OutOfRange) (cond-false _ _ (and-false-left (legalEdit e) n))
+  unfolding principalEdit principalJudged
+  caller-illegal n =
+      edits-refused (λ t. principalEdit t who e) w h (Faulty OutOfRange) (rw (and-false-left (legalEdit e) n))
 
   -- judged by the tables that the store holds
   module _ (l : legalCaller who ≡ true) (m : legalEdit e ≡ true) {d : Layout} (q : d ≡ layoutOf w) where
-    legal-edit : let t = tables (storeRows w) in
-        principalEdit t who e ≡ cond (isContext (tableOf e)) (refused (Faulty ContextTable) t) (allowed (judgement (tablesAt w d) who e) t e)
-    unfolding principalEdit tablesAt
-    legal-edit = rw (l, m, q)
+    abbrev judgedHere : Decision
+    judgedHere = judgement (tablesAt w d) who e
 
-    pub principal-denied : {r : Edited} → Denied r ≡ admission (isContext (tableOf e)) (judgement (tablesAt w d) who e) → PrincipalEdits who e w w r
+    legal-judged : let t = tables (storeRows w) in
+        principalJudged t who e ≡ cond (isContext (e .table)) (Faulty ContextTable) (allowed judgedHere (faulted (rowFault true t e)))
+    unfolding principalJudged tablesAt
+    legal-judged = rw (l, m, q)
+
+    pub principal-denied : {r : Edited} → Denied r ≡ admission (isContext (e .table)) judgedHere → PrincipalEdits who e w w r
+    unfolding principalEdit
     principal-denied {r} a =
+        let t = tables (storeRows w) in
         edits-refused (λ t. principalEdit t who e) w h r
-        (legal-edit ∙ denied-is (tables (storeRows w)) e (isContext (tableOf e)) (judgement (tablesAt w d) who e) a)
+        (ap (λ v. settled v t e) (legal-judged ∙ denied-is (faulted (rowFault true t e)) (isContext (e .table)) judgedHere a)
+        ∙ denied-settled (isContext (e .table)) judgedHere a t e)
 
-    pub principal-granted : Granted ≡ admission (isContext (tableOf e)) (judgement (tablesAt w d) who e) → {after : List ℕ} {r : Edited}
+    pub principal-granted : Granted ≡ admission (isContext (e .table)) judgedHere → {after : List ℕ} {r : Edited}
         → Edits (λ t. edit true t e) w after r → PrincipalEdits who e w after r
+    unfolding principalEdit edit
     principal-granted a k =
+        let t = tables (storeRows w) in
         edits-same (λ t. principalEdit t who e) w h (λ t. edit true t e)
-        (legal-edit ∙ granted-is (tables (storeRows w)) e (isContext (tableOf e)) (judgement (tablesAt w d) who e) a) k
+        (ap (λ v. settled v t e) (legal-judged ∙ granted-is (faulted (rowFault true t e)) (isContext (e .table)) judgedHere a)) k

@@ -14,7 +14,7 @@ use Rattle.edit_rows.specs.Promise.{answered, left, Edits}
 use Rattle.edits.specs.Calls.{ownerEdit, principalEdit}
 use Rattle.edits.specs.Does.{Call, ask, owner, by, Reply, decided, edited, Does, asks, owns, acts}
 
-abbrev pub stepped : Outcome Tables → Reply × Tables
+abbrev pub stepped : Outcome → Reply × Tables
 stepped o = (edited (o .answer), o .rows)
 
 unfoldable pub step : Tables → Call → Reply × Tables
@@ -24,7 +24,7 @@ step t (by c e) = stepped (principalEdit t c e)
 
 -- ---- a call on a store that holds tables
 
-edits-step : (f : Tables → Outcome Tables) (s s′ : List ℕ) (t : Tables) (r : Edited) → Edits f s s′ r → held s ≡ some t
+edits-step : (f : Tables → Outcome) (s s′ : List ℕ) (t : Tables) (r : Edited) → Edits f s s′ r → held s ≡ some t
     → (r ≡ f t .answer) × (held s′ ≡ some (f t .rows))
 edits-step f s s′ t r d e = (d .answer-is ∙ ap (answered f) e, d .rows-are ∙ ap (left f) e)
 

@@ -15,28 +15,35 @@ use Rattle.image.specs.Store.{isSound}
 use Rattle.rows.specs.declared.Operation.{Operation}
 use Rattle.edit_rules.specs.declared.Edited.{Edited}
 use Rattle.edit_rules.specs.declared.Edited.the-variants.{Done, Barred, Faulty}
-use Rattle.edit_rules.specs.Edits.{Outcome, Edit, Caller, tableOf, editOf, edit, legalCaller, legalEdit, judgement, isContext}
+use Rattle.edit_rules.specs.Edits.{Outcome, Edit, Caller, editOf, legalCaller, legalEdit, judgement, isContext, rowFault, faulted, settled}
 use Rattle.edit_rows.specs.Promise.{Edits}
 use Rattle.edits.specs.declared.Prepared.{Prepared}
 use Rattle.edits.specs.declared.Prepared.the-variants.{Ready, Unready}
 
-abbrev pub refused : Edited → Tables → Outcome Tables
-refused r t = record { answer = r; rows = t }
+-- ---- judged against the rows held, Done where nothing stands against the edit but, it may be, room
 
--- the owner: 7, then the edit, unchecked by the tables
-unfoldable pub ownerEdit : Tables → Edit → Outcome Tables
-ownerEdit t e = cond (legalEdit e) (edit false t e) (refused (Faulty OutOfRange) t)
+-- the owner's: 7, then 10; unchecked by the tables
+unfoldable pub ownerJudged : Tables → Edit → Edited
+ownerJudged t e = cond (legalEdit e) (faulted (rowFault false t e)) (Faulty OutOfRange)
 
-abbrev pub allowed : Decision → Tables → Edit → Outcome Tables
-allowed Allowed t e = edit true t e
-allowed (Refused c) t e = refused (Barred c) t
+abbrev pub allowed : Decision → Edited → Edited
+allowed Allowed r = r
+allowed (Refused c) r = Barred c
 
--- 7 for the caller's fields, then the row's; 12; 1 to 5; then the edit
-unfoldable pub principalEdit : Tables → Caller → Edit → Outcome Tables
-principalEdit t c e =
+-- a principal's: 7 for the caller's fields, then the row's; 12; 1 to 5; 10, 11
+unfoldable pub principalJudged : Tables → Caller → Edit → Edited
+principalJudged t c e =
     cond (legalCaller c && legalEdit e)
-    (cond (isContext (tableOf e)) (refused (Faulty ContextTable) t) (allowed (judgement t c e) t e))
-    (refused (Faulty OutOfRange) t)
+    (cond (isContext (e .table)) (Faulty ContextTable) (allowed (judgement t c e) (faulted (rowFault true t e))))
+    (Faulty OutOfRange)
+
+-- ---- the edits: judged; 9; then applied
+
+unfoldable pub ownerEdit : Tables → Edit → Outcome
+ownerEdit t e = settled (ownerJudged t e) t e
+
+unfoldable pub principalEdit : Tables → Caller → Edit → Outcome
+principalEdit t c e = settled (principalJudged t c e) t e
 
 -- ---- the calls
 

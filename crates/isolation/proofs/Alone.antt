@@ -1,22 +1,20 @@
--- The shared calls alone.
--- Of one list that keeps the conditions: its shared calls have the answers, and the circle's rows the end, of the shared calls run alone,
--- from the circle's rows. By induction along the list: a shared call is the same step there and here, any other leaves the circle's rows,
--- and every call keeps the tables orderly. The right side depends on nothing but the shared calls. Assumes nothing.
+-- One list: its shared calls are told, and leave of the circle's rows, what they alone would be told and leave on the circle's rows.
+-- By induction on the run: at each call the tables held are orderly, a shared call does the same with the circle's rows alone, and any other call
+-- leaves them. The right side knows only the shared calls and the circle's rows at the start. Assumes nothing.
 use mathlib.Core.Path.{_≡_, refl, sym, ap, _∙_}
 use mathlib.Core.Bool.{Bool, true}
 use mathlib.Core.List.{List, [], _∷_}
 use mathlib.Core.Option.{some}
 use Prim.Native.Nat.{ℕ}
-use Rattle.lists.specs.Lists.{keep, every}
-use Rattle.lists.proofs.Bools.{split, and-left, and-right}
+use Rattle.lists.proofs.Bools.{split}
 use Rattle.rows.specs.Tables.{Tables}
 use Rattle.image.specs.Store.{held}
 use Rattle.edits.specs.Does.{Call, Reply}
-use Rattle.isolation.specs.Isolation.{Told, calls, Run, done, more, Circle, shared, picked, staysInside, insidersEdit, mapsToGroup}
+use Rattle.edits.proofs.Steps.{step, does-step}
+use Rattle.isolation.specs.Isolation.{Told, calls, Run, done, more, Along, Circle, shared, picked, staysInside, insidersEdit, handsSuch, mapsToGroup}
 use Rattle.isolation.specs.Isolation.{givesChosen, findsRoom, othersRefused}
 use Rattle.isolation.proofs.Circles.{circleRows, Orderly}
 use Rattle.isolation.proofs.Steps.{step-shared, step-other, step-orderly}
-use Rattle.edits.proofs.Steps.{step, does-step}
 
 -- ---- a list of calls, each with its answer, and the tables at the end
 
@@ -33,7 +31,7 @@ pub run-trace : {s s′ : List ℕ} {ts : List Told} → Run s ts s′ → (t : 
     → (trace t (calls ts) ≡ ts) × (held s′ ≡ some (final t (calls ts)))
 unfolding trace final
 run-trace done t e = (refl, e)
-run-trace {s} (more {next = m} {c = c} {r = r} {ts = ts} d run) t e =
+run-trace (more {c = c} {r = r} d run) t e =
     let h = does-step t d e in
     let ih = run-trace run (step t c .1) (h .1) in
     (rw (← (h .0)) (ap (λ (l : List Told). (c, r) ∷ l) (ih .0)), ih .1)
@@ -41,48 +39,57 @@ run-trace {s} (more {next = m} {c = c} {r = r} {ts = ts} d run) t e =
 module _ (w : Circle) where
   -- ---- the conditions on one list
 
-  abbrev Each : (Call → Reply → Bool) → List Told → Type 0
-  Each test ts = every (λ (t : Told). test (t .0) (t .1)) ts ≡ true
+  abbrev Each : (Call → Reply → Bool) → {s s′ : List ℕ} {ts : List Told} → Run s ts s′ → Type 0
+  Each test run = Along (λ found c r. test c r ≡ true) run
 
-  pub record Kept (ts : List Told) : Type 0 where
-    pub members-inside : Each (λ c r. staysInside w c) ts
-    pub members-grouped : Each (λ c r. insidersEdit w (mapsToGroup w) c) ts
-    pub views-chosen : Each (λ c r. insidersEdit w (givesChosen w) c) ts
-    pub never-full : Each (λ c r. insidersEdit w (findsRoom r) c) ts
-    pub others-refused : Each (λ c r. othersRefused w c r) ts
+  pub record Kept {s s′ : List ℕ} {ts : List Told} (run : Run s ts s′) : Type 0 where
+    pub members-inside : Each (λ c r. staysInside w c) run
+    pub members-grouped : Each (λ c r. insidersEdit w (handsSuch (mapsToGroup w)) c) run
+    pub views-chosen : Each (λ c r. insidersEdit w (handsSuch (givesChosen w)) c) run
+    pub never-full : Each (λ c r. insidersEdit w (findsRoom r) c) run
+    pub others-refused : Each (λ c r. othersRefused w c r) run
 
-  kept-rest : (c : Call) (r : Reply) (ts : List Told) → Kept ((c, r) ∷ ts) → Kept ts
-  kept-rest c r ts k = record {
-    members-inside = and-right (staysInside w c) _ (k .members-inside);
-    members-grouped = and-right (insidersEdit w (mapsToGroup w) c) _ (k .members-grouped);
-    views-chosen = and-right (insidersEdit w (givesChosen w) c) _ (k .views-chosen);
-    never-full = and-right (insidersEdit w (findsRoom r) c) _ (k .never-full);
-    others-refused = and-right (othersRefused w c r) _ (k .others-refused);
-  }
+  -- ---- one list, from tables t to the store s
 
-  -- ---- one list
+  pub record Alone (t : Tables) (ts : List Told) (s : List ℕ) : Type 0 where
+    pub tables : Tables
+    pub tables-held : held s ≡ some tables
+    pub orderly : Orderly w tables
+    pub answers : picked w ts ≡ trace (circleRows w t) (calls (picked w ts))
+    pub rows : circleRows w tables ≡ final (circleRows w t) (calls (picked w ts))
 
-  pub record Alone (t : Tables) (cs : List Call) : Type 0 where
-    pub answers : picked w (trace t cs) ≡ trace (circleRows w t) (keep (shared w) cs)
-    pub rows : circleRows w (final t cs) ≡ final (circleRows w t) (keep (shared w) cs)
-
-  pub alone : (t : Tables) (cs : List Call) → Orderly w t → Kept (trace t cs) → Alone t cs
+  pub alone : {s s′ : List ℕ} {ts : List Told} (run : Run s ts s′) (t : Tables) → held s ≡ some t → Orderly w t → Kept run → Alone t ts s′
   unfolding trace final
-  alone t [] i k = record { answers = refl; rows = refl }
-  alone t (c ∷ cs) i k =
-      let r = step t c .0 in
+  alone done t e i k = record { tables = t; tables-held = e; orderly = i; answers = refl; rows = refl }
+  alone (more {c = c} {r = r} {ts = ts} d run) t e i k =
+      let h = does-step t d e in
       let t′ = step t c .1 in
-      let o : othersRefused w c r ≡ true = and-left _ _ (k .others-refused) in
-      let i′ : Orderly w t′ = step-orderly w t c i (and-left _ _ (k .members-grouped)) (and-left _ _ (k .views-chosen)) o in
-      let ih : Alone t′ cs = alone t′ cs i′ (kept-rest c r (trace t′ cs) k) in
+      let o : othersRefused w c (step t c .0) ≡ true = rw (h .0) at (k .others-refused .0) in
+      let f : insidersEdit w (findsRoom (step t c .0)) c ≡ true = rw (h .0) at (k .never-full .0) in
+      let i′ : Orderly w t′ = step-orderly w t c i (k .members-grouped .0) (k .views-chosen .0) o in
+      let ih : Alone t′ ts _ = alone run t′ (h .1) i′ record {
+        members-inside = k .members-inside .1;
+        members-grouped = k .members-grouped .1;
+        views-chosen = k .views-chosen .1;
+        never-full = k .never-full .1;
+        others-refused = k .others-refused .1;
+      } in
       split (shared w c)
-      (λ h.
-      let q : step (circleRows w t) c ≡ (r, circleRows w t′) =
-      step-shared w t c i h (and-left _ _ (k .members-inside)) (and-left _ _ (k .never-full)) in
+      (λ y.
+      let q : step (circleRows w t) c ≡ (step t c .0, circleRows w t′) = step-shared w t c i y (k .members-inside .0) f in
       record {
-        answers = rw (h, q) (ap (λ (l : List Told). (c, r) ∷ l) (ih .answers));
-        rows = rw h (ih .rows ∙ ap (λ (u : Reply × Tables). final (u .1) (keep (shared w) cs)) (sym q));
+        tables = ih .tables;
+        tables-held = ih .tables-held;
+        orderly = ih .orderly;
+        answers = rw (y, q, ← (h .0)) (ap (λ (l : List Told). (c, r) ∷ l) (ih .answers));
+        rows = rw y (ih .rows ∙ ap (λ (u : Reply × Tables). final (u .1) (calls (picked w ts))) (sym q));
       })
-      (λ h.
-      let q : circleRows w t′ ≡ circleRows w t = step-other w t c h o in
-      record { answers = rw (h, ← q) (ih .answers); rows = rw (h, ← q) (ih .rows) })
+      (λ y.
+      let q : circleRows w t′ ≡ circleRows w t = step-other w t c y o in
+      record {
+        tables = ih .tables;
+        tables-held = ih .tables-held;
+        orderly = ih .orderly;
+        answers = rw (y, ← q) (ih .answers);
+        rows = rw (y, ← q) (ih .rows);
+      })

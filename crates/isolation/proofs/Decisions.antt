@@ -14,15 +14,16 @@ use Rattle.lists.specs.Lists.{keep, every, any, find, OnSome}
 use Rattle.lists.proofs.Bools.{split, and-left, and-right}
 use Rattle.lists.proofs.Orders.{same-true}
 use Rattle.lists.proofs.Keeps.{every-keep, every-kept, every-both, every-top, keep-keep, first-is, find-is}
-use Rattle.rows.specs.Rows.{MappingRow, AccessRow, ViewRow}
+use Rattle.rows.specs.declared.Table.the-variants.{Context, Mapping, Access, View}
+use Rattle.rows.specs.Rows.{ContextRow, MappingRow, AccessRow, ViewRow}
 use Rattle.rows.specs.Tables.{Tables}
 use Rattle.decision_steps.specs.Request.{Request}
 use Rattle.answers.specs.declared.Cause.the-variants.{NoSuchView, NoAccessEntry, NoGroupName}
-use Rattle.decision_steps.specs.Decision.{mapsPrincipal, candidate, ofModel, longestPrefix, highestLevel, chosenAccess, viewFor, inView, viewRows, orRefused}
+use Rattle.decision_steps.specs.Decision.{bearsContext, mapsPrincipal, candidate, ofModel, longestPrefix, highestLevel, chosenAccess, viewFor, inView, viewRows, orRefused}
 use Rattle.decision_steps.specs.Decision.{ifAny, step5, step4, step3, step2, decision}
-use Rattle.isolation.specs.Isolation.{Circle, mappingIn, accessIn, viewIn, chosenOrEmpty, namesChosen}
+use Rattle.isolation.specs.Isolation.{Circle, rowIn, chosenOrEmpty, namesChosen}
 use Rattle.isolation.proofs.Tables.{find-keep}
-use Rattle.isolation.proofs.Circles.{implied, circleRows, mappingFits, accessFits, Orderly}
+use Rattle.isolation.proofs.Circles.{implied, circleRows, rowFits, Orderly}
 
 -- ---- the access row chosen is one of the candidates
 
@@ -44,13 +45,13 @@ chosen-is g group model level context rs a =
 module _ (w : Circle) where
   -- ---- steps 4 and 5
 
-  view-in : (name : List ℕ) (r : ViewRow) → w .chosen name ≡ true → inView name r ≡ true → viewIn w r ≡ true
+  view-in : (name : List ℕ) (r : ViewRow) → w .chosen name ≡ true → inView name r ≡ true → rowIn w View r ≡ true
   unfolding inView
   view-in name r h e = rw (same-true (r .viewName) name (and-left _ _ e)) h
 
-  view-rows : (name : List ℕ) (rs : List ViewRow) → chosenOrEmpty w name ≡ true → viewRows name (keep (viewIn w) rs) ≡ viewRows name rs
+  view-rows : (name : List ℕ) (rs : List ViewRow) → chosenOrEmpty w name ≡ true → viewRows name (keep (rowIn w View) rs) ≡ viewRows name rs
   view-rows [] rs h = refl
-  view-rows (x ∷ name) rs h = keep-keep (viewIn w) (inView (x ∷ name)) rs (λ r e. view-in (x ∷ name) r h e)
+  view-rows (x ∷ name) rs h = keep-keep (rowIn w View) (inView (x ∷ name)) rs (λ r e. view-in (x ∷ name) r h e)
 
   view-for : (viewType : ℕ) (a : AccessRow) → namesChosen w a ≡ true → chosenOrEmpty w (viewFor viewType a) ≡ true
   unfolding viewFor
@@ -70,31 +71,31 @@ module _ (w : Circle) where
   -- ---- step 3
 
   candidate-in : (model level : ℕ) (context : List ℕ) (a : AccessRow) → candidate (w .group) model level context a ≡ true
-      → accessIn w a ≡ true
+      → rowIn w Access a ≡ true
   unfolding candidate
   candidate-in model level context a e = and-left _ _ (and-left _ _ (and-left _ _ (and-left _ _ e)))
 
   access-rows : (model level : ℕ) (context : List ℕ) (rs : List AccessRow)
-      → chosenAccess (w .group) model level context (keep (accessIn w) rs) ≡ chosenAccess (w .group) model level context rs
+      → chosenAccess (w .group) model level context (keep (rowIn w Access) rs) ≡ chosenAccess (w .group) model level context rs
   unfolding chosenAccess
   access-rows model level context rs =
-      rw (keep-keep (accessIn w) (candidate (w .group) model level context) rs (candidate-in model level context))
+      rw (keep-keep (rowIn w Access) (candidate (w .group) model level context) rs (candidate-in model level context))
 
   step-3 : (q : Request) (t : Tables) (o : Option AccessRow)
-      → OnSome (λ a. candidate (w .group) (q .securityModel) (q .securityLevel) (q .contextName) a && accessFits w a ≡ true) o
+      → OnSome (λ a. candidate (w .group) (q .securityModel) (q .securityLevel) (q .contextName) a && rowFits w Access a ≡ true) o
       → orRefused NoAccessEntry o (λ a. step4 (q .variableName) (viewFor (q .viewType) a) (circleRows w t .vacmViewTreeFamilyTable))
       ≡ orRefused NoAccessEntry o (λ a. step4 (q .variableName) (viewFor (q .viewType) a) (t .vacmViewTreeFamilyTable))
   step-3 q t none h = refl
   step-3 q t (some a) h =
-      let i : accessIn w a ≡ true = candidate-in (q .securityModel) (q .securityLevel) (q .contextName) a (and-left _ _ h) in
-      let f : accessFits w a ≡ true = and-right (candidate (w .group) (q .securityModel) (q .securityLevel) (q .contextName) a) _ h in
+      let i : rowIn w Access a ≡ true = candidate-in (q .securityModel) (q .securityLevel) (q .contextName) a (and-left _ _ h) in
+      let f : rowFits w Access a ≡ true = and-right (candidate (w .group) (q .securityModel) (q .securityLevel) (q .contextName) a) _ h in
       ap (λ rs. orRefused NoSuchView (ifAny rs) (step5 (q .variableName)))
-      (view-rows (viewFor (q .viewType) a) (t .vacmViewTreeFamilyTable) (view-for (q .viewType) a (implied (accessIn w a) _ f i)))
+      (view-rows (viewFor (q .viewType) a) (t .vacmViewTreeFamilyTable) (view-for (q .viewType) a (implied (rowIn w Access a) _ f i)))
 
   -- ---- step 2
 
   mapping-in : (model : ℕ) (name : List ℕ) (m : MappingRow) → w .member model name ≡ true → mapsPrincipal model name m ≡ true
-      → mappingIn w m ≡ true
+      → rowIn w Mapping m ≡ true
   unfolding mapsPrincipal
   mapping-in model name m h e =
       let p : m .securityModel ≡ model = eqb-true _ _ (and-left _ _ (and-left _ _ e)) in
@@ -103,18 +104,18 @@ module _ (w : Circle) where
 
   module _ (q : Request) (t : Tables) (i : Orderly w t) (h : w .member (q .securityModel) (q .securityName) ≡ true) where
     step-2 : (o : Option MappingRow)
-        → OnSome (λ m. (mapsPrincipal (q .securityModel) (q .securityName) m ≡ true) × (mappingFits w m ≡ true)) o
+        → OnSome (λ m. (mapsPrincipal (q .securityModel) (q .securityName) m ≡ true) × (rowFits w Mapping m ≡ true)) o
         → orRefused NoGroupName o (λ m. step3 (m .groupName) q (circleRows w t)) ≡ orRefused NoGroupName o (λ m. step3 (m .groupName) q t)
     step-2 none k = refl
     step-2 (some m) k =
-        let n : mappingIn w m ≡ true = mapping-in (q .securityModel) (q .securityName) m h (k .0) in
-        let g : m .groupName ≡ w .group = same-true _ _ (implied (mappingIn w m) _ (k .1) n) in
+        let n : rowIn w Mapping m ≡ true = mapping-in (q .securityModel) (q .securityName) m h (k .0) in
+        let g : m .groupName ≡ w .group = same-true _ _ (and-left _ _ (implied (rowIn w Mapping m) _ (k .1) n)) in
         let model = q .securityModel in
         let level = q .securityLevel in
         let context = q .contextName in
         rw (g, access-rows model level context (t .vacmAccessTable))
         (step-3 q t (chosenAccess (w .group) model level context (t .vacmAccessTable))
-        (chosen-is (accessFits w) (w .group) model level context (t .vacmAccessTable) (i .accesses .1)))
+        (chosen-is (rowFits w Access) (w .group) model level context (t .vacmAccessTable) (i .accesses .1)))
 
     -- ---- the decision
 
@@ -123,5 +124,6 @@ module _ (w : Circle) where
     decision-keep =
         let p : MappingRow → Bool = mapsPrincipal (q .securityModel) (q .securityName) in
         let ms = t .vacmSecurityToGroupTable in
-        rw (find-keep (mappingIn w) p ms (λ m e. mapping-in (q .securityModel) (q .securityName) m h e))
-        (rw (step-2 (find p ms) (find-is p (mappingFits w) ms (i .mappings .1))))
+        rw (find-keep (rowIn w Context) (bearsContext (q .contextName)) (t .vacmContextTable) (λ c e. refl))
+        (rw (find-keep (rowIn w Mapping) p ms (λ m e. mapping-in (q .securityModel) (q .securityName) m h e))
+        (rw (step-2 (find p ms) (find-is p (rowFits w Mapping) ms (i .mappings .1)))))

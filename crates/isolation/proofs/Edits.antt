@@ -1,24 +1,59 @@
--- Edits of the four tables beside the circle's rows.
--- What is refused changes nothing. An edit of the circle does with the circle's rows alone what it does with all rows, with the same answer:
--- it is of one table, the rows at its index are of the circle as the edit is, and no context row is left out. An edit outside the circle
--- does not show in its rows. An edit that fits keeps the tables in order and their rows fitting. Assumes nothing.
-use mathlib.Core.Path.{_≡_, refl, ap, _∙_}
-use mathlib.Core.Bool.{Bool, true, false, _&&_, and-true}
-use mathlib.Core.List.{List}
-use Prim.Native.Nat.{ℕ}
-use lib.Dec.{eqb}
-use Rattle.lists.proofs.Bools.{clash}
+-- Edits of the tables beside the circle's rows.
+-- An edit of the circle does with the circle's rows alone what it does with all rows, with the same answer: the rows at its index are of the circle
+-- as the edit is, so that the row held is the same; and the circle's rows are no more than all rows, so that where all leave room they do. An edit
+-- outside the circle does not show in its rows. What is refused changes nothing. An edit that fits keeps the tables in order and their rows fitting.
+-- Assumes nothing.
+use mathlib.Core.Path.{_≡_, refl, sym, ap, ap₂, _∙_}
+use mathlib.Core.Bool.{Bool, true, false, not, _&&_}
+use mathlib.Core.Option.{Option·map}
+use Prim.Native.Nat.{ℕ, _≤_, _<_}
+use native.Mathlib.Omega.{arith}
+use lib.Dec.{eqb, leb}
+use lib.ListN.{length}
+use borrow.Author.Tests.{leb-false, lt-leb}
+use Rattle.lists.specs.Lists.{keep, isNone}
+use Rattle.lists.proofs.Bools.{split, clash, and-left, and-right, and-both, and-false-or, and-false-left, and-false-right, or-right}
+use Rattle.rows.specs.declared.Operation.{Operation}
+use Rattle.rows.specs.declared.Operation.the-variants.{Put, Remove}
 use Rattle.rows.specs.declared.Table.{Table}
 use Rattle.rows.specs.declared.Table.the-variants.{Context, Mapping, Access, View}
-use Rattle.rows.specs.Fields.{values}
-use Rattle.rows.specs.Rows.{ContextRow, MappingRow, AccessRow, ViewRow, limit, keyFields, fieldAt, numberAt, contextOf, mappingOf, accessOf, viewOf}
+use Rattle.rows.specs.Rows.{limit}
 use Rattle.rows.specs.Tables.{Tables}
-use Rattle.edit_rules.specs.Edits.{Edit, put, remove, Outcome, indexOfEdit, inTable, edit}
-use Rattle.edit_rules.specs.TableRows.{contextIndex, mappingIndex, accessIndex, viewIndex, rowOf, rowIndex, storageOf, rowsOf, withRows}
+use Rattle.table_update.specs.Tables.{rowAt}
+use Rattle.edit_rules.specs.declared.Edited.{Edited}
+use Rattle.edit_rules.specs.declared.Edited.the-variants.{Done, Barred, Faulty}
+use Rattle.edit_rules.specs.TableRows.{RowOf, rowOf, rowIndex, storageOf, rowsOf, withRows}
+use Rattle.edit_rules.specs.Edits.{Edit, Outcome, outcome, indexOfEdit, rowHeld, heldFault, rowFault, comesIn, isFull, rowsAfter, applied, settled}
+use Rattle.edit_rules.proofs.Outcomes.{row-index}
 use Rattle.edits.specs.Calls.{editedNumber}
-use Rattle.isolation.specs.Isolation.{Circle, mappingIn, accessIn, viewIn, ofCircle, implies, mapsToGroup, givesChosen}
-use Rattle.isolation.proofs.Circles.{circleRows, Fitting, mapping-same, access-same, view-same, mappingFits, accessFits, Orderly}
-use Rattle.isolation.proofs.TableEdits.{puts-refused, removes-refused, puts-in, removes-in, puts-out, removes-out, puts-fitting, removes-fitting}
+use Rattle.isolation.specs.Isolation.{Circle, rowIn, ofCircle, implies, handsRow, handsSuch, mapsToGroup, givesChosen}
+use Rattle.isolation.proofs.Tables.{length-keep, rowAt-keep, keep-after-in, keep-after-out, ascends-after, every-after}
+use Rattle.isolation.proofs.Circles.{implied, circleRows, rows-circle, with-circle, key-same, rowFits, Fitting, Orderly, orderly-at, orderly-with}
+
+-- ---- an edit once it is judged
+
+-- the tables stay, or the edit is applied
+pub settled-either : (P : Tables → Type 0) (v : Edited) (ts : Tables) (e : Edit) → P ts → P (applied ts e) → P (settled v ts e .rows)
+settled-either P Done ts e h k = split (isFull ts e) (λ f. rw f h) (λ f. rw f k)
+settled-either P (Barred c) ts e h k = h
+settled-either P (Faulty f) ts e h k = h
+
+pub settled-refused : (v : Edited) (ts : Tables) (e : Edit) → eqb (editedNumber (settled v ts e .answer)) 0 ≡ false → settled v ts e .rows ≡ ts
+settled-refused Done ts e h = split (isFull ts e) (λ f. rw f) (λ f. clash {b = true} refl (rw f at h))
+settled-refused (Barred c) ts e h = refl
+settled-refused (Faulty f) ts e h = refl
+
+-- where a row comes in, one is handed
+comes-hands : (o : Operation) (b : Bool) → comesIn o b ≡ true → handsRow o ≡ true
+comes-hands Put b e = refl
+comes-hands Remove b e = clash e refl
+
+-- an edit that is not answered 'table full' finds room
+found-room : (ts : Tables) (e : Edit) → implies (handsRow (e .operation)) (not (eqb (editedNumber (settled Done ts e .answer)) 9)) ≡ true → isFull ts e ≡ false
+unfolding isFull
+found-room ts e h =
+    split (isFull ts e)
+    (λ f. clash (implied _ _ (rw f at h) (comes-hands (e .operation) _ (and-left _ _ f))) refl) (λ f. f)
 
 -- a table's own rows in place of those held
 own-rows : (t : Table) (ts : Tables) → withRows t ts (rowsOf t ts) ≡ ts
@@ -27,130 +62,106 @@ own-rows Mapping ts = refl
 own-rows Access ts = refl
 own-rows View ts = refl
 
-pub edit-refused : (strict : Bool) (ts : Tables) (e : Edit) → eqb (editedNumber (edit strict ts e .answer)) 0 ≡ false
-    → edit strict ts e .rows ≡ ts
-unfolding edit
-edit-refused strict ts (put t row) h =
-    ap (withRows t ts) (puts-refused (rowIndex t) (storageOf t) (limit t) strict (rowOf t row) (rowsOf t ts) h) ∙ own-rows t ts
-edit-refused strict ts (remove t key) h =
-    ap (withRows t ts) (removes-refused (rowIndex t) (storageOf t) (limit t) strict (indexOfEdit (remove t key)) (rowsOf t ts) h) ∙ own-rows t ts
-
--- a put is not answered 'table full'
-abbrev pub HasRoom : Edit → Outcome Tables → Type 0
-HasRoom (put t row) o = eqb (editedNumber (o .answer)) 9 ≡ false
-HasRoom (remove t key) o = Unit {0}
-
 module _ (w : Circle) where
-  -- rows at the index of an edit are of the circle as the edit is
-  mapping-put : (row : List ℕ) (x : MappingRow) → mappingIndex (mappingOf row) ≡ mappingIndex x
-      → mappingIn w x ≡ ofCircle w (put Mapping row)
-  mapping-put row x e = mapping-same w (mappingOf row .securityModel) (mappingOf row .securityName) x e
-
-  access-put : (row : List ℕ) (x : AccessRow) → accessIndex (accessOf row) ≡ accessIndex x
-      → accessIn w x ≡ ofCircle w (put Access row)
-  access-put row x e =
-      let r = accessOf row in access-same w (r .groupName) (r .contextPrefix) (r .securityModel) (r .securityLevel) x e
-
-  view-put : (row : List ℕ) (x : ViewRow) → viewIndex (viewOf row) ≡ viewIndex x
-      → viewIn w x ≡ ofCircle w (put View row)
-  view-put row x e = view-same w (viewOf row .viewName) (viewOf row .subtree) x e
-
-  mapping-remove : (key : List ℕ) (x : MappingRow) → indexOfEdit (remove Mapping key) ≡ mappingIndex x
-      → mappingIn w x ≡ ofCircle w (remove Mapping key)
-  unfolding indexOfEdit keyFields
-  mapping-remove key x e = let fs = values (keyFields Mapping) key in mapping-same w (numberAt 0 fs) (fieldAt 1 fs) x e
-
-  access-remove : (key : List ℕ) (x : AccessRow) → indexOfEdit (remove Access key) ≡ accessIndex x
-      → accessIn w x ≡ ofCircle w (remove Access key)
-  unfolding indexOfEdit keyFields
-  access-remove key x e =
-      let fs = values (keyFields Access) key in access-same w (fieldAt 0 fs) (fieldAt 1 fs) (numberAt 2 fs) (numberAt 3 fs) x e
-
-  view-remove : (key : List ℕ) (x : ViewRow) → indexOfEdit (remove View key) ≡ viewIndex x
-      → viewIn w x ≡ ofCircle w (remove View key)
-  unfolding indexOfEdit keyFields
-  view-remove key x e = let fs = values (keyFields View) key in view-same w (fieldAt 0 fs) (fieldAt 1 fs) x e
-
   -- the circle's rows of what an edit leaves
-  abbrev pub circleOf : Outcome Tables → Outcome Tables
-  circleOf o = record { answer = o .answer; rows = circleRows w (o .rows) }
+  abbrev pub circleOf : Outcome → Outcome
+  circleOf o = outcome (o .answer) (circleRows w (o .rows))
 
-  -- of the circle
-  pub edit-in : (strict : Bool) (t : Tables) (e : Edit) → Orderly w t → ofCircle w e ≡ true → HasRoom e (edit strict t e)
-      → edit strict (circleRows w t) e ≡ circleOf (edit strict t e)
-  unfolding edit
-  edit-in strict t (put Context row) i h q = refl
-  edit-in strict t (put Mapping row) i h q =
-      ap (inTable Mapping (circleRows w t))
-      (puts-in mappingIndex _ _ (mappingIn w) strict (mappingOf row) _ (λ x e. mapping-put row x e ∙ h) h (i .mappings .0) q)
-  edit-in strict t (put Access row) i h q =
-      ap (inTable Access (circleRows w t))
-      (puts-in accessIndex _ _ (accessIn w) strict (accessOf row) _ (λ x e. access-put row x e ∙ h) h (i .accesses .0) q)
-  edit-in strict t (put View row) i h q =
-      ap (inTable View (circleRows w t))
-      (puts-in viewIndex _ _ (viewIn w) strict (viewOf row) _ (λ x e. view-put row x e ∙ h) h (i .views .0) q)
-  edit-in strict t (remove Context key) i h q = refl
-  edit-in strict t (remove Mapping key) i h q =
-      ap (inTable Mapping (circleRows w t)) (removes-in mappingIndex _ _ (mappingIn w) strict _ _ (λ x e. mapping-remove key x e ∙ h))
-  edit-in strict t (remove Access key) i h q =
-      ap (inTable Access (circleRows w t)) (removes-in accessIndex _ _ (accessIn w) strict _ _ (λ x e. access-remove key x e ∙ h))
-  edit-in strict t (remove View key) i h q =
-      ap (inTable View (circleRows w t)) (removes-in viewIndex _ _ (viewIn w) strict _ _ (λ x e. view-remove key x e ∙ h))
+  module _ (ts : Tables) (e : Edit) where
+    abbrev of : Bool
+    of = ofCircle w e
 
-  -- outside of it
-  pub edit-out : (strict : Bool) (t : Tables) (e : Edit) → ofCircle w e ≡ false → circleRows w (edit strict t e .rows) ≡ circleRows w t
-  unfolding edit
-  edit-out strict t (put Context row) h = clash refl h
-  edit-out strict t (put Mapping row) h =
-      ap (withRows Mapping (circleRows w t))
-      (puts-out mappingIndex _ _ (mappingIn w) strict (mappingOf row) _ (λ x e. mapping-put row x e ∙ h) h)
-  edit-out strict t (put Access row) h =
-      ap (withRows Access (circleRows w t))
-      (puts-out accessIndex _ _ (accessIn w) strict (accessOf row) _ (λ x e. access-put row x e ∙ h) h)
-  edit-out strict t (put View row) h =
-      ap (withRows View (circleRows w t))
-      (puts-out viewIndex _ _ (viewIn w) strict (viewOf row) _ (λ x e. view-put row x e ∙ h) h)
-  edit-out strict t (remove Context key) h = clash refl h
-  edit-out strict t (remove Mapping key) h =
-      ap (withRows Mapping (circleRows w t))
-      (removes-out mappingIndex _ _ (mappingIn w) strict _ _ (λ x e. mapping-remove key x e ∙ h))
-  edit-out strict t (remove Access key) h =
-      ap (withRows Access (circleRows w t))
-      (removes-out accessIndex _ _ (accessIn w) strict _ _ (λ x e. access-remove key x e ∙ h))
-  edit-out strict t (remove View key) h =
-      ap (withRows View (circleRows w t))
-      (removes-out viewIndex _ _ (viewIn w) strict _ _ (λ x e. view-remove key x e ∙ h))
+    -- rows at the edit's index are of the circle as the edit is
+    at-index : {b : Bool} → of ≡ b → (x : RowOf (e .table)) → indexOfEdit e ≡ rowIndex (e .table) x → rowIn w (e .table) x ≡ b
+    unfolding indexOfEdit
+    at-index h x q = key-same w (e .table) (e .bytes) x q ∙ h
 
-  -- an edit that fits
-  abbrev pub fits : Edit → Bool
-  fits e = implies (ofCircle w e) (mapsToGroup w e && givesChosen w e)
+    own-index : rowIndex (e .table) (rowOf (e .table) (e .bytes)) ≡ indexOfEdit e
+    unfolding indexOfEdit
+    own-index = row-index (e .table) (e .bytes)
 
-  with-contexts : (t : Tables) (rs : List ContextRow) → Orderly w t → Fitting contextIndex (λ r. true) rs → Orderly w (withRows Context t rs)
-  with-contexts t rs i f = record { contexts = f; mappings = i .mappings; accesses = i .accesses; views = i .views }
+    -- ---- of the circle
 
-  with-mappings : (t : Tables) (rs : List MappingRow) → Orderly w t → Fitting mappingIndex (mappingFits w) rs → Orderly w (withRows Mapping t rs)
-  with-mappings t rs i f = record { contexts = i .contexts; mappings = f; accesses = i .accesses; views = i .views }
+    module _ (h : of ≡ true) where
+      held-circle : rowHeld (circleRows w ts) e ≡ rowHeld ts e
+      held-circle =
+          ap (rowAt (rowIndex (e .table)) (indexOfEdit e)) (rows-circle w (e .table) ts)
+          ∙ rowAt-keep (rowIndex (e .table)) (rowIn w (e .table)) (indexOfEdit e) (rowsOf (e .table) ts) (at-index h)
 
-  with-accesses : (t : Tables) (rs : List AccessRow) → Orderly w t → Fitting accessIndex (accessFits w) rs → Orderly w (withRows Access t rs)
-  with-accesses t rs i f = record { contexts = i .contexts; mappings = i .mappings; accesses = f; views = i .views }
+      pub fault-circle : (strict : Bool) → rowFault strict (circleRows w ts) e ≡ rowFault strict ts e
+      unfolding rowFault
+      fault-circle strict =
+          ap (λ o. heldFault strict (e .operation) (Option·map (storageOf (e .table)) o) (storageOf (e .table) (rowOf (e .table) (e .bytes)))) held-circle
 
-  with-views : (t : Tables) (rs : List ViewRow) → Orderly w t → Fitting viewIndex (λ r. true) rs → Orderly w (withRows View t rs)
-  with-views t rs i f = record { contexts = i .contexts; mappings = i .mappings; accesses = i .accesses; views = f }
+      -- room among all rows is room among the circle's
+      room-circle : leb (limit (e .table)) (length (rowsOf (e .table) ts)) ≡ false → leb (limit (e .table)) (length (rowsOf (e .table) (circleRows w ts))) ≡ false
+      room-circle f =
+          let a : length (rowsOf (e .table) ts) < limit (e .table) = leb-false _ _ f in
+          let b : length (keep (rowIn w (e .table)) (rowsOf (e .table) ts)) ≤ length (rowsOf (e .table) ts) = length-keep (rowIn w (e .table)) (rowsOf (e .table) ts) in
+          lt-leb (limit (e .table)) _ (rw (rows-circle w (e .table) ts) (omega arith))
 
-  pub edit-orderly : (strict : Bool) (t : Tables) (e : Edit) → Orderly w t → fits e ≡ true → Orderly w (edit strict t e .rows)
-  unfolding edit
-  edit-orderly strict t (put Context row) i h =
-      with-contexts t _ i (puts-fitting contextIndex (storageOf Context) _ (λ r. true) strict (contextOf row) _ (i .contexts) refl)
-  edit-orderly strict t (put Mapping row) i h =
-      with-mappings t _ i (puts-fitting mappingIndex _ _ (mappingFits w) strict (mappingOf row) _ (i .mappings) (rw and-true at h))
-  edit-orderly strict t (put Access row) i h =
-      with-accesses t _ i (puts-fitting accessIndex _ _ (accessFits w) strict (accessOf row) _ (i .accesses) h)
-  edit-orderly strict t (put View row) i h =
-      with-views t _ i (puts-fitting viewIndex _ _ (λ r. true) strict (viewOf row) _ (i .views) refl)
-  edit-orderly strict t (remove Context key) i h =
-      with-contexts t _ i (removes-fitting contextIndex (storageOf Context) _ (λ r. true) strict _ _ (i .contexts))
-  edit-orderly strict t (remove Mapping key) i h =
-      with-mappings t _ i (removes-fitting mappingIndex _ _ (mappingFits w) strict _ _ (i .mappings))
-  edit-orderly strict t (remove Access key) i h =
-      with-accesses t _ i (removes-fitting accessIndex _ _ (accessFits w) strict _ _ (i .accesses))
-  edit-orderly strict t (remove View key) i h = with-views t _ i (removes-fitting viewIndex _ _ (λ r. true) strict _ _ (i .views))
+      full-circle : isFull ts e ≡ false → isFull (circleRows w ts) e ≡ false
+      unfolding isFull
+      full-circle f =
+          and-false-or (comesIn (e .operation) (not (isNone (rowHeld ts e)))) _ f
+          (λ a. and-false-left _ (ap (λ o. comesIn (e .operation) (not (isNone o))) held-circle ∙ a))
+          (λ a. and-false-right (comesIn (e .operation) (not (isNone (rowHeld (circleRows w ts) e)))) (room-circle a))
+
+      module _ (i : Orderly w ts) where
+        applied-circle : applied (circleRows w ts) e ≡ circleRows w (applied ts e)
+        unfolding applied
+        applied-circle =
+            let t = e .table in
+            let after = rowsAfter (rowIndex t) (e .operation) (rowOf t (e .bytes)) (indexOfEdit e) in
+            ap (withRows t (circleRows w ts))
+            (ap after (rows-circle w t ts)
+            ∙ sym (keep-after-in (rowIndex t) (rowIn w t) (e .operation) _ (indexOfEdit e) (rowsOf t ts) own-index (at-index h) (orderly-at w t i .0)))
+            ∙ with-circle w t ts (after (rowsOf t ts))
+
+        pub settled-in : (v : Edited) → implies (handsRow (e .operation)) (not (eqb (editedNumber (settled v ts e .answer)) 9)) ≡ true
+            → settled v (circleRows w ts) e ≡ circleOf (settled v ts e)
+        settled-in Done q = let f = found-room ts e q in rw (f, full-circle f, applied-circle)
+        settled-in (Barred c) q = refl
+        settled-in (Faulty f) q = refl
+
+    -- ---- outside of it
+
+    applied-out : of ≡ false → circleRows w (applied ts e) ≡ circleRows w ts
+    unfolding applied
+    applied-out h =
+        let t = e .table in
+        sym (with-circle w t ts _)
+        ∙ ap (withRows t (circleRows w ts)) (keep-after-out (rowIndex t) (rowIn w t) (e .operation) _ (indexOfEdit e) (rowsOf t ts) own-index (at-index h))
+        ∙ with-circle w t ts (rowsOf t ts)
+        ∙ ap (circleRows w) (own-rows t ts)
+
+    pub settled-out : of ≡ false → (v : Edited) → circleRows w (settled v ts e .rows) ≡ circleRows w ts
+    settled-out h v = settled-either (λ u. circleRows w u ≡ circleRows w ts) v ts e refl (applied-out h)
+
+    -- ---- an edit that fits
+
+    abbrev pub fits : Bool
+    fits = implies of (handsSuch (mapsToGroup w) e && handsSuch (givesChosen w) e)
+
+    -- the row that it hands
+    row-fits : fits ≡ true → handsRow (e .operation) ≡ true → rowFits w (e .table) (rowOf (e .table) (e .bytes)) ≡ true
+    row-fits f h =
+        let r = rowOf (e .table) (e .bytes) in
+        split of
+        (λ o.
+        let g = implied of _ f o in
+        let m : mapsToGroup w (e .table) r ≡ true = implied (handsRow (e .operation)) _ (and-left _ _ g) h in
+        let c : givesChosen w (e .table) r ≡ true = implied (handsRow (e .operation)) _ (and-right (handsSuch (mapsToGroup w) e) _ g) h in
+        or-right (not (rowIn w (e .table) r)) (and-both m c))
+        (λ o. rw (at-index o r (sym own-index)))
+
+    pub settled-orderly : fits ≡ true → Orderly w ts → (v : Edited) → Orderly w (settled v ts e .rows)
+    unfolding applied
+    settled-orderly f i v =
+        let t = e .table in
+        let a = orderly-at w t i in
+        settled-either (Orderly w) v ts e i
+        (orderly-with w t _ i (
+          ascends-after (rowIndex t) (e .operation) _ (indexOfEdit e) (rowsOf t ts) (a .0),
+          every-after (rowIndex t) (rowFits w t) (e .operation) _ (indexOfEdit e) (rowsOf t ts) (row-fits f) (a .1),
+        ))

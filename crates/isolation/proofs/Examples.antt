@@ -6,23 +6,27 @@ use mathlib.Core.Bool.{Bool, true, false, _&&_}
 use mathlib.Core.List.{List, [], _∷_, _++_, map}
 use Prim.Native.Nat.{ℕ, zero, suc}
 use lib.Dec.{eqb}
-use lib.ListN.{replicate}
+use native.Mathlib.Omega.{arith}
+use borrow.Author.Tests.{eq-eqb, le-leb}
+use lib.ListN.{length, replicate}
 use Rattle.lists.specs.Lists.{every}
+use Rattle.lists.proofs.Bools.{and-left, and-right}
 use Rattle.lists.specs.Order.{same, before, begins}
 use Rattle.rows.specs.declared.Table.the-variants.{Context, Mapping, Access, View}
 use Rattle.rows.specs.Fields.{sequenceFault, integerFault, faults, rowBytes}
 use Rattle.rows.specs.Rows.{keyFields, rowFields}
 use Rattle.rows.specs.Tables.{noRows}
-use Rattle.image_layout.specs.Layout.{laidOut, layoutOf}
+use Rattle.image_layout.specs.Layout.{header, laidOut, layoutOf}
 use Rattle.image_judge.specs.Faults.{tableFault, rowsFault, tablesAt}
 use Rattle.image.specs.Store.{room, soundRows, isSound, held}
 use Rattle.decision_steps.specs.Request.{asked, legalRequest}
 use Rattle.decision_steps.specs.Decision.{bearsContext, mapsPrincipal, contextFits, candidate, chosenAccess, viewFor, inView, maskBit, agrees, matches}
 use Rattle.decision_steps.specs.Decision.{chosenView, decision}
-use Rattle.edit_rules.specs.Edits.{Edit, put, remove, Caller, indexOfEdit, legalEdit, mayPut, mayRemove, puts, removes, edit, legalCaller, judgement}
-use Rattle.edits.specs.Calls.{ownerEdit, principalEdit}
-use Rattle.edits.specs.Does.{Call, ask, owner, by, replyNumber}
-use Rattle.isolation.specs.Isolation.{Told, calls, Run, Fresh, Circle, picked, staysInside, insidersEdit, mapsToGroup}
+use Rattle.rows.specs.declared.Operation.the-variants.{Put, Remove}
+use Rattle.edit_rules.specs.Edits.{Edit, editOf, Caller, indexOfEdit, legalEdit, mayPut, mayRemove, rowFault, isFull, applied, legalCaller, judgement}
+use Rattle.edits.specs.Calls.{ownerJudged, ownerEdit, principalJudged, principalEdit}
+use Rattle.edits.specs.Does.{Call, ask, owner, by, Reply, replyNumber}
+use Rattle.isolation.specs.Isolation.{Told, calls, Run, done, more, Along, Fresh, Circle, picked, staysInside, insidersEdit, handsSuch, mapsToGroup}
 use Rattle.isolation.specs.Isolation.{givesChosen, findsRoom, othersRefused, Conditions}
 use Rattle.edits.proofs.Steps.{step}
 use Rattle.isolation.proofs.Alone.{trace, run-trace}
@@ -57,25 +61,25 @@ abbrev circle : Circle
 circle = record { group = leads; member = λ model name. eqb model 3 && same name ann; chosen = λ name. same name all }
 
 abbrev putContext : List ℕ → Edit
-putContext name = put Context (rowBytes (rowFields Context) (name ∷ []))
+putContext name = editOf Put Context (rowBytes (rowFields Context) (name ∷ []))
 
 abbrev putMapping : List ℕ → List ℕ → Edit
-putMapping name group = put Mapping (rowBytes (rowFields Mapping) ((3 ∷ []) ∷ name ∷ group ∷ (3 ∷ []) ∷ (1 ∷ []) ∷ []))
+putMapping name group = editOf Put Mapping (rowBytes (rowFields Mapping) ((3 ∷ []) ∷ name ∷ group ∷ (3 ∷ []) ∷ (1 ∷ []) ∷ []))
 
 abbrev removeMapping : List ℕ → Edit
-removeMapping name = remove Mapping (rowBytes (keyFields Mapping) ((3 ∷ []) ∷ name ∷ []))
+removeMapping name = editOf Remove Mapping (rowBytes (keyFields Mapping) ((3 ∷ []) ∷ name ∷ []))
 
 -- of any context, any model, level 1 and above
 abbrev putAccess : List ℕ → List ℕ → List ℕ → List ℕ → Edit
 putAccess group read write notify =
-    put Access
+    editOf Put Access
     (rowBytes (rowFields Access)
     (group ∷ [] ∷ (0 ∷ []) ∷ (1 ∷ []) ∷ (2 ∷ []) ∷ read ∷ write ∷ notify ∷ (3 ∷ []) ∷ (1 ∷ []) ∷ []))
 
 -- type 1 is included, 2 excluded
 abbrev putView : List ℕ → List ℕ → ℕ → Edit
 putView name subtree type =
-    put View (rowBytes (rowFields View) (name ∷ subtree ∷ [] ∷ (type ∷ []) ∷ (3 ∷ []) ∷ (1 ∷ []) ∷ []))
+    editOf Put View (rowBytes (rowFields View) (name ∷ subtree ∷ [] ∷ (type ∷ []) ∷ (3 ∷ []) ∷ (1 ∷ []) ∷ []))
 
 abbrev principal : List ℕ → Caller
 principal name = record { securityModel = 3; securityName = name; securityLevel = 2 }
@@ -87,8 +91,8 @@ annAsks viewType = ask (asked 3 ann 2 viewType [] (internet (2 ∷ 1 ∷ [])))
 -- ---- what a list is told, from no rows, and whether it meets the conditions
 
 pub tells : List Call → List Told
-unfolding trace step ownerEdit principalEdit judgement legalEdit legalCaller edit puts removes mayPut mayRemove indexOfEdit
-    keyFields rowFields faults sequenceFault integerFault legalRequest decision bearsContext mapsPrincipal contextFits candidate
+unfolding trace step ownerEdit ownerJudged principalEdit principalJudged judgement legalEdit legalCaller rowFault isFull applied mayPut mayRemove
+    indexOfEdit keyFields rowFields faults sequenceFault integerFault legalRequest decision bearsContext mapsPrincipal contextFits candidate
     chosenAccess viewFor inView maskBit agrees matches chosenView same before begins
 tells cs = trace noRows cs
 
@@ -99,8 +103,8 @@ numbers ts = map (λ (t : Told). replyNumber (t .1)) ts
 abbrev meets : List Told → List Bool
 meets ts =
     every (λ (t : Told). staysInside circle (t .0)) ts
-    ∷ every (λ (t : Told). insidersEdit circle (mapsToGroup circle) (t .0)) ts
-    ∷ every (λ (t : Told). insidersEdit circle (givesChosen circle) (t .0)) ts
+    ∷ every (λ (t : Told). insidersEdit circle (handsSuch (mapsToGroup circle)) (t .0)) ts
+    ∷ every (λ (t : Told). insidersEdit circle (handsSuch (givesChosen circle)) (t .0)) ts
     ∷ every (λ (t : Told). insidersEdit circle (findsRoom (t .1)) (t .0)) ts
     ∷ every (λ (t : Told). othersRefused circle (t .0) (t .1)) ts
     ∷ []
@@ -175,17 +179,6 @@ busy =
 busy-told : numbers (tells busy) ≡ 1 ∷ 0 ∷ 0 ∷ 0 ∷ 12 ∷ 0 ∷ 3 ∷ 0 ∷ 0 ∷ 0 ∷ 0 ∷ 5 ∷ 0 ∷ 0 ∷ 2 ∷ []
 unfolding tells
 busy-told = refl
-
-pub conditions-met : Conditions circle (tells quiet) (tells busy)
-unfolding tells
-conditions-met = record {
-  same-calls = refl;
-  members-inside = (refl, refl);
-  members-grouped = (refl, refl);
-  views-chosen = (refl, refl);
-  never-full = (refl, refl);
-  others-refused = (refl, refl);
-}
 
 -- what the shared calls are told in both
 both-told : Shown quiet busy allMet allMet (0 ∷ 0 ∷ 0 ∷ 0 ∷ 0 ∷ 5 ∷ 0 ∷ 2 ∷ []) (0 ∷ 0 ∷ 0 ∷ 0 ∷ 0 ∷ 5 ∷ 0 ∷ 2 ∷ [])
@@ -279,12 +272,29 @@ run-told : {s s′ : List ℕ} {ts : List Told} → Fresh s → Run s ts s′ �
 unfolding tells
 run-told f run cs e = sym (run-trace run noRows f .0) ∙ ap (trace noRows) e
 
--- so that every two runs of these lists meet the conditions
-pub conditions-met-on-stores : {s s′ t t′ : List ℕ} {xs ys : List Told} → Fresh s → Fresh t → Run s xs s′ → Run t ys t′
-    → calls xs ≡ quiet → calls ys ≡ busy → Conditions circle xs ys
-conditions-met-on-stores f g p q d e = rw (run-told f p quiet d, run-told g q busy e) conditions-met
+-- what each call of a list passes holds along its run
+along-every : (test : Call → Reply → Bool) {s s′ : List ℕ} {ts : List Told} (run : Run s ts s′) → every (λ (t : Told). test (t .0) (t .1)) ts ≡ true
+    → Along (λ found c r. test c r ≡ true) run
+along-every test done h = tt
+along-every test (more {c = c} {r = r} d run) h = (and-left _ _ h, along-every test run (and-right (test c r) _ h))
 
--- room for the largest image, filled with zeros, is a fresh store
-pub zeros-fresh : Fresh (replicate room 0)
+-- so that every two runs of these lists meet the conditions
+pub conditions-met : {s s′ t t′ : List ℕ} {xs ys : List Told} → Fresh s → Fresh t → (p : Run s xs s′) (q : Run t ys t′)
+    → calls xs ≡ quiet → calls ys ≡ busy → Conditions circle p q
+unfolding tells
+conditions-met {xs = xs} {ys = ys} f g p q d e =
+    let x : xs ≡ tells quiet = run-told f p quiet d in
+    let y : ys ≡ tells busy = run-told g q busy e in
+    record {
+      same-calls = rw (x, y);
+      members-inside = (along-every _ p (rw x), along-every _ q (rw y));
+      members-grouped = (along-every _ p (rw x), along-every _ q (rw y));
+      views-chosen = (along-every _ p (rw x), along-every _ q (rw y));
+      never-full = (along-every _ p (rw x), along-every _ q (rw y));
+      others-refused = (along-every _ p (rw x), along-every _ q (rw y));
+    }
+
+-- a header of zeros with anything behind it, as far as the room goes, is a fresh store
+pub zeros-fresh : (rest : List ℕ) → length (replicate header 0 ++ rest) ≡ room → Fresh (replicate header 0 ++ rest)
 unfolding held isSound soundRows rowsFault laidOut tablesAt layoutOf tableFault
-zeros-fresh = refl
+zeros-fresh rest l = rw (eq-eqb (length (replicate header 0 ++ rest)) room l, le-leb header (length (replicate header 0 ++ rest)) (omega arith))

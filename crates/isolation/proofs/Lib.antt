@@ -1,8 +1,10 @@
 pub mod Tables
 pub mod Circles
 pub mod Decisions
-pub mod TableEdits
 pub mod Edits
+pub mod Asks
+pub mod OwnerEdits
+pub mod PrincipalEdits
 pub mod Steps
 pub mod Alone
 pub mod Isolation

@@ -1,20 +1,26 @@
--- A table's rows put, removed and found, beside the rows that a test keeps.
+-- A table's rows put, removed and found, at each index and beside the rows that a test keeps.
 -- A put and a removal keep the order and what holds of every row. Where the test goes by the index, a put or a removal of a row
 -- that is kept commutes with the test, and one of a row that is not kept does not show. Only the put of a kept row needs the order:
 -- where the row goes in before one that is not kept, it is before all that follow. Assumes nothing.
 use mathlib.Core.Path.{_≡_, refl, sym, ap, _∙_}
-use mathlib.Core.Bool.{Bool, true, false}
+use mathlib.Core.Bool.{Bool, true, false, cond}
 use mathlib.Core.List.{List, [], _∷_}
+use mathlib.Core.Option.{none, some}
 use Prim.Native.Nat.{ℕ, _≤_}
 use native.Mathlib.Omega.{arith}
 use lib.ListN.{length}
 use Rattle.lists.specs.Lists.{keep, every, first, find}
 use Rattle.lists.specs.Order.{same, before}
-use Rattle.lists.proofs.Bools.{split, and-left, and-right}
-use Rattle.lists.proofs.Orders.{same-true, before-not-same, before-total}
+use Rattle.lists.proofs.Bools.{split, clash, and-left, and-right, cond-same}
+use Rattle.lists.proofs.Orders.{same-true, same-sym, before-not-same, before-total}
 use Rattle.lists.proofs.Keeps.{keep-keep, find-first}
 use Rattle.lists.proofs.Greatest.{Under, Ascends, under-trans, under-keep}
+use Rattle.lists.proofs.Ascending.{none-under}
+use Rattle.rows.specs.declared.Operation.{Operation}
+use Rattle.rows.specs.declared.Operation.the-variants.{Put, Remove}
 use Rattle.table_update.specs.Tables.{rowAt, putRow, removeRow}
+use Rattle.edit_rules.specs.Edits.{rowsAfter}
+use Rattle.isolation.specs.Isolation.{handsRow}
 
 module _ {A : Type 0} where
   pub find-keep : (p f : A → Bool) (xs : List A) → ((x : A) → f x ≡ true → p x ≡ true) → find f (keep p xs) ≡ find f xs
@@ -72,6 +78,38 @@ module _ {R : Type 0} (indexOf : R → List ℕ) where
       let ih : every g (removeRow indexOf i xs) ≡ true = every-remove g i xs rest in
       split (same i (indexOf x)) (λ e. rw e rest) (λ e. rw (e, gx) ih)
 
+  -- the row at each index after a put, and after a removal
+  pub rowAt-put : (i : List ℕ) (r : R) (xs : List R) → rowAt indexOf i (putRow indexOf r xs) ≡ cond (same i (indexOf r)) (some r) (rowAt indexOf i xs)
+  rowAt-put i r [] = refl
+  rowAt-put i r (x ∷ xs) =
+      let ih : rowAt indexOf i (putRow indexOf r xs) ≡ cond (same i (indexOf r)) (some r) (rowAt indexOf i xs) = rowAt-put i r xs in
+      split (same (indexOf r) (indexOf x))
+      (λ e. rw (e, ← (same-true (indexOf r) (indexOf x) e))
+      (split (same i (indexOf r)) (λ q. rw q) (λ q. rw q)))
+      (λ e. split (before (indexOf r) (indexOf x)) (λ l. rw (e, l))
+      (λ l. rw (e, l, ih) (split (same i (indexOf x)) (λ q. rw (q, other i x e (same-true i (indexOf x) q))) (λ q. rw q))))
+    where
+      other : (i : List ℕ) (x : R) → same (indexOf r) (indexOf x) ≡ false → i ≡ indexOf x → same i (indexOf r) ≡ false
+      other i x e q = rw q (same-sym (indexOf x) (indexOf r) ∙ e)
+
+  pub rowAt-remove : (i j : List ℕ) (xs : List R) → Ascends indexOf xs
+      → rowAt indexOf j (removeRow indexOf i xs) ≡ cond (same j i) none (rowAt indexOf j xs)
+  rowAt-remove i j [] a = sym (cond-same (same j i) none)
+  rowAt-remove i j (x ∷ xs) a =
+      let ih : rowAt indexOf j (removeRow indexOf i xs) ≡ cond (same j i) none (rowAt indexOf j xs) = rowAt-remove i j xs (a .1) in
+      split (same i (indexOf x))
+      (λ e.
+      let k : i ≡ indexOf x = same-true i (indexOf x) e in
+      rw (e, ← k)
+      (split (same j i) (λ q. rw q (none-under indexOf j xs (under-at j (same-true j i q ∙ k)))) (λ q. rw q)))
+      (λ e. rw e (split (same j (indexOf x)) (λ q. rw (q, other (same-true j (indexOf x) q) e)) (λ q. rw q ih)))
+    where
+      under-at : (j : List ℕ) → j ≡ indexOf x → Under indexOf j xs
+      under-at j q = rw q (a .0)
+
+      other : j ≡ indexOf x → same i (indexOf x) ≡ false → same j i ≡ false
+      other q e = rw q (same-sym (indexOf x) i ∙ e)
+
   -- a row before all is put in front
   put-under : (r : R) (xs : List R) → Under indexOf (indexOf r) xs → putRow indexOf r xs ≡ r ∷ xs
   put-under r [] u = refl
@@ -115,3 +153,32 @@ module _ {R : Type 0} (indexOf : R → List ℕ) where
 
     pub rowAt-keep : (i : List ℕ) (xs : List R) → ((x : R) → i ≡ indexOf x → p x ≡ true) → rowAt indexOf i (keep p xs) ≡ rowAt indexOf i xs
     rowAt-keep i xs c = find-keep p (λ x. same i (indexOf x)) xs (λ x e. c x (same-true i (indexOf x) e))
+
+    -- at an index that is not kept there is none
+    pub rowAt-unkept : (i : List ℕ) (xs : List R) → ((x : R) → i ≡ indexOf x → p x ≡ false) → rowAt indexOf i (keep p xs) ≡ none
+    rowAt-unkept i [] c = refl
+    rowAt-unkept i (x ∷ xs) c =
+        let ih : rowAt indexOf i (keep p xs) ≡ none = rowAt-unkept i xs c in
+        split (p x) (λ k. rw k (split (same i (indexOf x)) (λ e. clash k (c x (same-true i (indexOf x) e))) (λ e. rw e ih))) (λ k. rw k ih)
+
+    -- ---- an edit's rows: where the test goes by the index, an edit of a kept row commutes with it, and any other does not show
+
+    pub keep-after-in : (o : Operation) (r : R) (i : List ℕ) (xs : List R) → indexOf r ≡ i → ((x : R) → i ≡ indexOf x → p x ≡ true) → Ascends indexOf xs
+        → keep p (rowsAfter indexOf o r i xs) ≡ rowsAfter indexOf o r i (keep p xs)
+    keep-after-in Put r i xs e c a = keep-put-in r xs (λ x q. c x (sym e ∙ q)) (c r (sym e)) a
+    keep-after-in Remove r i xs e c a = keep-remove-in i xs c
+
+    pub keep-after-out : (o : Operation) (r : R) (i : List ℕ) (xs : List R) → indexOf r ≡ i → ((x : R) → i ≡ indexOf x → p x ≡ false)
+        → keep p (rowsAfter indexOf o r i xs) ≡ keep p xs
+    keep-after-out Put r i xs e c = keep-put-out r xs (λ x q. c x (sym e ∙ q)) (c r (sym e))
+    keep-after-out Remove r i xs e c = keep-remove-out i xs c
+
+  -- its order, and what holds of every row
+  pub ascends-after : (o : Operation) (r : R) (i : List ℕ) (xs : List R) → Ascends indexOf xs → Ascends indexOf (rowsAfter indexOf o r i xs)
+  ascends-after Put r i xs a = ascends-put r xs a
+  ascends-after Remove r i xs a = ascends-remove i xs a
+
+  pub every-after : (g : R → Bool) (o : Operation) (r : R) (i : List ℕ) (xs : List R) → (handsRow o ≡ true → g r ≡ true) → every g xs ≡ true
+      → every g (rowsAfter indexOf o r i xs) ≡ true
+  every-after g Put r i xs h a = every-put g r xs (h refl) a
+  every-after g Remove r i xs h a = every-remove g i xs a

@@ -1,28 +1,29 @@
 -- Demand 3 of the mission: "Nobody who had no edit accepted inside a group's circle can change what its members are told."
 -- Words in quotation marks are the mission's, or document 01's ("The two lists of demand 3") where that is said. "Circle", "member call",
--- "shared calls" and "answer" are document 01's own terms. Every condition is a test that computes. Assumes nothing.
+-- "shared calls" and "answer" are document 01's own terms. The calls and what each of them does are those of `edits/specs/Does.antt`: the
+-- propositions that the calls' contracts cite. Assumes nothing.
 use mathlib.Core.Path.{_≡_}
-use mathlib.Core.Bool.{Bool, true, not, _&&_, _||_}
+use mathlib.Core.Bool.{Bool, true, false, not, _&&_, _||_}
 use mathlib.Core.List.{List, [], _∷_, map}
 use mathlib.Core.Option.{some}
 use Prim.Native.Nat.{ℕ}
 use lib.Dec.{eqb}
 use Rattle.lists.specs.Lists.{keep, every}
 use Rattle.lists.specs.Order.{same}
+use Rattle.rows.specs.declared.Operation.{Operation}
+use Rattle.rows.specs.declared.Operation.the-variants.{Put, Remove}
+use Rattle.rows.specs.declared.Table.{Table}
 use Rattle.rows.specs.declared.Table.the-variants.{Context, Mapping, Access, View}
 use Rattle.rows.specs.Fields.{values, index}
-use Rattle.rows.specs.Rows.{MappingRow, AccessRow, ViewRow, contextKey, mappingKey, accessKey, viewKey, keyFields, fieldAt, numberAt, mappingOf, accessOf}
-use Rattle.rows.specs.Rows.{viewOf}
+use Rattle.rows.specs.Rows.{AccessRow, contextKey, mappingKey, accessKey, viewKey, keyFields, fieldAt, numberAt}
 use Rattle.rows.specs.Tables.{Tables, noRows}
 use Rattle.image.specs.Store.{held}
 use Rattle.table_update.specs.Tables.{rowAt}
-use Rattle.edit_rules.specs.Edits.{Edit, put, remove, Caller}
-use Rattle.edit_rules.specs.TableRows.{contextIndex, mappingIndex, accessIndex, viewIndex}
+use Rattle.edit_rules.specs.Edits.{Edit, Caller}
+use Rattle.edit_rules.specs.TableRows.{RowOf, rowOf, valuesOf, contextIndex, mappingIndex, accessIndex, viewIndex}
 use Rattle.edits.specs.Does.{Call, ask, owner, by, Reply, replyNumber, Does}
 
--- The calls and what each of them does are those of `edits/specs/Does.antt`: the propositions that the calls' contracts cite.
-
--- ---- "Take every two lists of decision requests and edits, refused ones included, each from a fresh store."
+-- ---- "Take every two lists of decision requests and edits, refused ones included, .."
 
 -- a call and its answer
 abbrev pub Told : Type 0
@@ -37,7 +38,12 @@ pub data Run : List ℕ → List Told → List ℕ → Type 0 where
   done : {s : List ℕ} → Run s [] s
   more : {s next end : List ℕ} {c : Call} {r : Reply} {ts : List Told} → Does s c r next → Run next ts end → Run s ((c, r) ∷ ts) end
 
--- Document 01: "A fresh store has no rows." It is sound, as every store is that holds tables.
+-- what holds at each call of a run: of the store that it finds, the call and its answer
+abbrev pub Along : (List ℕ → Call → Reply → Type 0) → {s end : List ℕ} {ts : List Told} → Run s ts end → Type 0
+Along P done = Unit {0}
+Along P (more {s = s} {c = c} {r = r} d run) = P s c r × Along P run
+
+-- ".. each from a fresh store." Document 01: "A fresh store has no rows." It is sound, as every store is that holds tables.
 abbrev pub Fresh : List ℕ → Type 0
 Fresh s = held s ≡ some noRows
 
@@ -49,28 +55,21 @@ pub record Circle : Type 0 where
   pub member : ℕ → List ℕ → Bool
   pub chosen : List ℕ → Bool
 
--- ".. every context row, the members' mapping rows, the group's access rows and the view rows of chosen names."
-abbrev pub mappingIn : Circle → MappingRow → Bool
-mappingIn w r = w .member (r .securityModel) (r .securityName)
+-- ".. every context row, the members' mapping rows, the group's access rows and the view rows of chosen names.": by the fields of the key
+abbrev pub keyIn : Circle → Table → List (List ℕ) → Bool
+keyIn w Context key = true
+keyIn w Mapping key = w .member (numberAt 0 key) (fieldAt 1 key)
+keyIn w Access key = same (fieldAt 0 key) (w .group)
+keyIn w View key = w .chosen (fieldAt 0 key)
 
-abbrev pub accessIn : Circle → AccessRow → Bool
-accessIn w r = same (r .groupName) (w .group)
-
-abbrev pub viewIn : Circle → ViewRow → Bool
-viewIn w r = w .chosen (r .viewName)
+abbrev pub rowIn : Circle → (t : Table) → RowOf t → Bool
+rowIn w t r = keyIn w t (valuesOf t r)
 
 -- Document 01: "An edit is of the circle by what it is handed, accepted or not, its row held or not: any context row, a mapping row
--- whose principal is a member, an access row of the group, a view row of a chosen name." A put is handed a row, a removal a key.
--- Torn bytes are read as far as they go; such an edit is answered 7 whatever the rows.
+-- whose principal is a member, an access row of the group, a view row of a chosen name." A row begins with its key's fields, and a removal is
+-- handed the key alone. Torn bytes are read as far as they go; such an edit is answered 7 whatever the rows.
 abbrev pub ofCircle : Circle → Edit → Bool
-ofCircle w (put Context row) = true
-ofCircle w (put Mapping row) = mappingIn w (mappingOf row)
-ofCircle w (put Access row) = accessIn w (accessOf row)
-ofCircle w (put View row) = viewIn w (viewOf row)
-ofCircle w (remove Context key) = true
-ofCircle w (remove Mapping key) = w .member (numberAt 0 (values (keyFields Mapping) key)) (fieldAt 1 (values (keyFields Mapping) key))
-ofCircle w (remove Access key) = same (fieldAt 0 (values (keyFields Access) key)) (w .group)
-ofCircle w (remove View key) = w .chosen (fieldAt 0 (values (keyFields View) key))
+ofCircle w e = keyIn w (e .table) (values (keyFields (e .table)) (e .bytes))
 
 -- ---- "Let both hold the same member calls and the same owner's edits of the circle in the same order, whatever the others sent."
 
@@ -105,13 +104,20 @@ insidersEdit w test (ask q) = true
 insidersEdit w test (owner e) = implies (ofCircle w e) (test e)
 insidersEdit w test (by c e) = implies (isMember w c && ofCircle w e) (test e)
 
--- ".. map members to that group alone ..". Document 01: a removal breaks neither this condition nor the next.
-abbrev pub mapsToGroup : Circle → Edit → Bool
-mapsToGroup w (put Context row) = true
-mapsToGroup w (put Mapping row) = same (mappingOf row .groupName) (w .group)
-mapsToGroup w (put Access row) = true
-mapsToGroup w (put View row) = true
-mapsToGroup w (remove t key) = true
+-- the row that an edit is handed passes a test. Document 01: "A removal is handed a key alone and breaks neither" condition.
+abbrev pub handsRow : Operation → Bool
+handsRow Put = true
+handsRow Remove = false
+
+abbrev pub handsSuch : ((t : Table) → RowOf t → Bool) → Edit → Bool
+handsSuch test e = implies (handsRow (e .operation)) (test (e .table) (rowOf (e .table) (e .bytes)))
+
+-- ".. map members to that group alone ..": of a mapping row
+abbrev pub mapsToGroup : Circle → (t : Table) → RowOf t → Bool
+mapsToGroup w Context r = true
+mapsToGroup w Mapping r = same (r .groupName) (w .group)
+mapsToGroup w Access r = true
+mapsToGroup w View r = true
 
 -- ".. and its access rows to chosen views or the empty one ..". Document 01: "for read, write and notify names alike".
 abbrev pub chosenOrEmpty : Circle → List ℕ → Bool
@@ -121,17 +127,15 @@ chosenOrEmpty w (x ∷ name) = w .chosen (x ∷ name)
 abbrev pub namesChosen : Circle → AccessRow → Bool
 namesChosen w r = chosenOrEmpty w (r .readViewName) && chosenOrEmpty w (r .writeViewName) && chosenOrEmpty w (r .notifyViewName)
 
-abbrev pub givesChosen : Circle → Edit → Bool
-givesChosen w (put Context row) = true
-givesChosen w (put Mapping row) = true
-givesChosen w (put Access row) = namesChosen w (accessOf row)
-givesChosen w (put View row) = true
-givesChosen w (remove t key) = true
+abbrev pub givesChosen : Circle → (t : Table) → RowOf t → Bool
+givesChosen w Context r = true
+givesChosen w Mapping r = true
+givesChosen w Access r = namesChosen w r
+givesChosen w View r = true
 
 -- ".. and none of their puts there be answered 'table full' ..": 9, the number of no other case of an edit's answer
 abbrev pub findsRoom : Reply → Edit → Bool
-findsRoom r (put t row) = not (eqb (replyNumber r) 9)
-findsRoom r (remove t key) = true
+findsRoom r e = implies (handsRow (e .operation)) (not (eqb (replyNumber r) 9))
 
 -- "Let other principals have no edit accepted in the circle ..": 0, likewise
 abbrev pub othersRefused : Circle → Call → Reply → Bool
@@ -141,23 +145,23 @@ othersRefused w (by c e) r = implies (not (isMember w c) && ofCircle w e) (not (
 
 -- ---- the conditions on two lists
 
--- each call of both lists passes
-abbrev pub InBoth : (Call → Reply → Bool) → List Told → List Told → Type 0
-InBoth test xs ys = (every (λ (t : Told). test (t .0) (t .1)) xs ≡ true) × (every (λ (t : Told). test (t .0) (t .1)) ys ≡ true)
+-- each call of both lists passes a test of the call and its answer
+abbrev pub InBoth : (Call → Reply → Bool) → {s t s′ t′ : List ℕ} {xs ys : List Told} → Run s xs s′ → Run t ys t′ → Type 0
+InBoth test rx ry = Along (λ found c r. test c r ≡ true) rx × Along (λ found c r. test c r ≡ true) ry
 
-pub record Conditions (w : Circle) (xs ys : List Told) : Type 0 where
+pub record Conditions (w : Circle) {s t s′ t′ : List ℕ} {xs ys : List Told} (rx : Run s xs s′) (ry : Run t ys t′) : Type 0 where
   -- "Let both hold the same member calls and the same owner's edits of the circle in the same order, whatever the others sent."
   pub same-calls : calls (picked w xs) ≡ calls (picked w ys)
   -- "Let every member's edit in both be of a circle row."
-  pub members-inside : InBoth (λ c r. staysInside w c) xs ys
+  pub members-inside : InBoth (λ c r. staysInside w c) rx ry
   -- "Let the members' and the owner's edits of the circle map members to that group alone ..
-  pub members-grouped : InBoth (λ c r. insidersEdit w (mapsToGroup w) c) xs ys
+  pub members-grouped : InBoth (λ c r. insidersEdit w (handsSuch (mapsToGroup w)) c) rx ry
   -- .. and its access rows to chosen views or the empty one, ..
-  pub views-chosen : InBoth (λ c r. insidersEdit w (givesChosen w) c) xs ys
+  pub views-chosen : InBoth (λ c r. insidersEdit w (handsSuch (givesChosen w)) c) rx ry
   -- .. and none of their puts there be answered 'table full' in either list."
-  pub never-full : InBoth (λ c r. insidersEdit w (findsRoom r) c) xs ys
+  pub never-full : InBoth (λ c r. insidersEdit w (findsRoom r) c) rx ry
   -- "Let other principals have no edit accepted in the circle in either list."
-  pub others-refused : InBoth (λ c r. othersRefused w c r) xs ys
+  pub others-refused : InBoth (λ c r. othersRefused w c r) rx ry
 
 -- ---- "Then each member call and each owner's edit of the circle has the same answer in both lists, and the circle's rows end equal."
 
@@ -184,8 +188,31 @@ pub record SameRows (w : Circle) (s t : List ℕ) : Type 0 where
   pub views : (name subtree : List ℕ) → w .chosen name ≡ true
       → Alike viewIndex (index viewKey (name ∷ subtree ∷ [])) (one .vacmViewTreeFamilyTable) (other .vacmViewTreeFamilyTable)
 
--- of any two lists of any length
+-- demand 3, of any two lists of any length
 abbrev pub Isolated : Circle → Type 0
 Isolated w =
-    (s t s′ t′ : List ℕ) (xs ys : List Told) → Fresh s → Fresh t → Run s xs s′ → Run t ys t′ → Conditions w xs ys
+    (s t s′ t′ : List ℕ) (xs ys : List Told) → Fresh s → Fresh t → (rx : Run s xs s′) (ry : Run t ys t′) → Conditions w rx ry
     → (picked w xs ≡ picked w ys) × SameRows w s′ t′
+
+-- ---- the same from other starts: two stores whose circles agree, fresh or not
+
+-- the rows of the circle are such as the conditions let members and the owner put there
+abbrev pub circlePasses : Circle → (t : Table) → (RowOf t → Bool) → List (RowOf t) → Type 0
+circlePasses w t test rs = every (λ r. implies (rowIn w t r) (test r)) rs ≡ true
+
+pub record Settled (w : Circle) (t : Tables) : Type 0 where
+  -- members are mapped to the group alone
+  pub members-grouped : circlePasses w Mapping (mapsToGroup w Mapping) (t .vacmSecurityToGroupTable)
+  -- the group's access rows name chosen views or none
+  pub views-chosen : circlePasses w Access (givesChosen w Access) (t .vacmAccessTable)
+
+pub record Agreeing (w : Circle) (s t : List ℕ) : Type 0 where
+  pub same-rows : SameRows w s t
+  pub one-settled : Settled w (same-rows .one)
+  pub other-settled : Settled w (same-rows .other)
+
+-- and the stores agree again at the end, so that lists may follow
+abbrev pub IsolatedFrom : Circle → Type 0
+IsolatedFrom w =
+    (s t s′ t′ : List ℕ) (xs ys : List Told) → Agreeing w s t → (rx : Run s xs s′) (ry : Run t ys t′) → Conditions w rx ry
+    → (picked w xs ≡ picked w ys) × Agreeing w s′ t′

@@ -5,3 +5,4 @@ pub mod Tops
 pub mod Scans
 pub mod Greatest
 pub mod Laid
+pub mod Ascending

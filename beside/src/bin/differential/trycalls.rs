@@ -7,7 +7,7 @@ use beside::generate::calls::{call, spoil_row};
 use beside::generate::damage::{beyond_largest, every_damage, one_of_each};
 use beside::generate::every::{columns, instances, ranges, storages};
 use beside::generate::lines::{every_alteration, every_wrap};
-use beside::generate::lists::{list_keeps, two_lists, Circle};
+use beside::generate::lists::{agreeing_starts, list_keeps, two_lists, Circle};
 use beside::generate::world::{self, grant, largest, tables, Size, World};
 use beside::random::Random;
 use beside::reference::edits::Edit;
@@ -63,8 +63,8 @@ pub fn run(tally: &mut Tally, random: &mut Random, program: &mut Program, rounds
         let lines = growth(random, round);
         compare(tally, program, Some(&FRESH), &Input::of(lines));
         refusals_when_full(tally, random, program);
-        for _ in 0..2 {
-            isolation(tally, random, program);
+        for fresh in [true, true, false, false] {
+            isolation(tally, random, program, fresh);
         }
     }
 }
@@ -164,27 +164,30 @@ fn refusals_when_full(tally: &mut Tally, random: &mut Random, program: &mut Prog
     compare(tally, program, Some(&image::write(&tables)), &Input::of(list));
 }
 
-/// Demand 3 on the program itself: two lists with the same shared calls give these the same answers and leave the same circle.
-fn isolation(tally: &mut Tally, random: &mut Random, program: &mut Program) {
+/// Demand 3 on the program itself: two lists with the same shared calls give these the same answers and leave the same circle, from fresh
+/// stores or from two whose circles agree.
+fn isolation(tally: &mut Tally, random: &mut Random, program: &mut Program, fresh: bool) {
     let size = random.of(&[Size::Small, Size::Wide, Size::Dense]);
     let world = World::new(random, size);
     let circle = Circle::new(random, &world);
+    let starts = if fresh { Default::default() } else { agreeing_starts(random, &world, &circle) };
     let length = random.between(20, 120);
-    let pair = two_lists(random, &world, &circle, length);
+    let pair = two_lists(random, &world, &circle, &starts, length);
     let mut shared = Vec::new();
     let mut ends = Vec::new();
-    for list in &pair {
+    for (start, list) in starts.iter().zip(&pair) {
         let mut lines: Vec<Vec<u8>> = list.iter().map(|call| call_text(call).into_bytes()).collect();
         lines.push(b"image".to_vec());
-        let out = compare(tally, program, Some(&FRESH), &Input::of(lines));
+        let out = compare(tally, program, Some(&image::write(start)), &Input::of(lines));
         let text = String::from_utf8_lossy(&out);
         let answers: Vec<String> = text.lines().map(|line| line.split_once(' ').map_or("", |(_, answer)| answer).to_string()).collect();
         shared.push(list.iter().zip(&answers).filter(|(call, _)| circle.is_shared(call)).map(|(_, answer)| answer.clone()).collect::<Vec<_>>());
         let image = answers.last().and_then(|answer| answer.strip_prefix("image ")).map(unhex).unwrap_or_default();
         ends.push(image::read(&image).map(|tables| circle.rows(&tables)));
     }
-    if pair.iter().all(|list| list_keeps(&circle, list)) {
-        tally.meet("trycalls", "pairs of lists of demand 3: alike".to_string());
+    if starts.iter().zip(&pair).all(|(start, list)| list_keeps(&circle, start, list)) {
+        let from = if fresh { "fresh stores" } else { "stores whose circles agree" };
+        tally.meet("trycalls", format!("pairs of lists of demand 3, from {from}: alike"));
         let alike = shared[0] == shared[1] && ends[0].is_ok() && ends[0] == ends[1];
         tally.check(alike, || {
             let texts = pair.map(|list| list.iter().map(call_text).collect::<Vec<_>>().join("\n"));

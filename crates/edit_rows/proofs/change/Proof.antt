@@ -1,17 +1,21 @@
--- `edit_rows::change` meets its contract. The key at the front of the bytes is sought in its table, and the answer at its place is the edit's.
--- Where that is a refusal the store stays; where it is Done what `exchange` requires is met, and the rows that it leaves are those of the edit
--- (`Stores`). Assumes nothing.
+-- `edit_rows::change` meets its contract. The key at the front of the bytes is sought in its table, and what is judged at its place, and then
+-- whether there is room, is the edit's answer. Where that is a refusal the store stays; where it is Done what `exchange` requires is met, and the
+-- rows that it leaves are those of the edit (`Stores`). Assumes nothing.
 use mathlib.Core.Path.{_≡_, sym, ap, _∙_}
+use mathlib.Core.Bool.{Bool}
+use mathlib.Core.Option.{Option}
 use native.Mathlib.Omega.{arith}
 use borrow.Author.Needs.{needs}
+use Rattle.answers.specs.declared.Fault.{Fault}
 use Rattle.rows.specs.Rows.{limit}
 use Rattle.big_endian.specs.BigEndian.{Octets}
 use Rattle.image_layout.specs.Layout.{layoutOf}
 use Rattle.table_update.specs.Exchange.{extentOf, Sought}
 use Rattle.table_update.proofs.Stores.{rowKey}
-use Rattle.edit_rules.specs.Storage.{storageIn, storageAt, placeAnswer}
-use Rattle.edit_rows.proofs.Stores.{inside-laid, views-laid, sought-laid, not-done, key-within, taken-within, storage-known, change-refused}
-use Rattle.edit_rows.proofs.Stores.{change-asked, change-done}
+use Rattle.edit_rules.specs.declared.Edited.the-variants.{Done}
+use Rattle.edit_rules.specs.Storage.{storageIn, storageAt, placeFault, placed, fullAt}
+use Rattle.edit_rows.proofs.Stores.{inside-laid, views-laid, sought-laid, faulty-done, not-done, placed-judged, placed-full, placed-room, key-within}
+use Rattle.edit_rows.proofs.Stores.{taken-within, storage-known, change-refused, change-asked, change-done}
 use Rattle.edit_rows.proofs.change.Statement.{statement}
 use Rattle.edit_rows.proofs.change.Tie as tie
 
@@ -34,36 +38,55 @@ sought : (k : tie.After-seek) → let a = start (laid k) .args in
 sought k =
     let x = laid k in
     let s = start x in
-    sought-laid (s .args .t) (s .args .w .now) (s .args .bytes .now) (s .pre .0 .1) (x .extent-of .ensures) (s .pre .1 .1) (k .seek .ensures)
+    sought-laid (s .args .t) (s .args .w .now) (s .args .bytes .now) (s .pre .0 .laid) (x .extent-of .ensures) (s .pre .1 .key-is) (k .seek .ensures)
 
--- the answer there
-abbrev found : tie.After-place-answer → tie.After-seek
+-- what stands against the edit there, and whether the table is full for it
+abbrev faultIn : tie.After-seek → Option Fault
+faultIn k =
+    let a = start (laid k) .args in
+    let p = k .seek .result in
+    placeFault (a .strict) (a .c) (p .present) (storageAt (a .w .now) p) (storageIn (a .bytes .now))
+
+abbrev fullIn : tie.After-seek → Bool
+fullIn k =
+    let a = start (laid k) .args in fullAt (a .c) (k .seek .result .present) (limit (a .t)) (extentOf (a .t) (layoutOf (a .w .now)) .count)
+
+abbrev found : tie.After-judge-place → tie.After-seek
 found r = r .before .before
 
-answer-is : (r : tie.After-place-answer) → let a = start (laid (found r)) .args in let p = found r .seek .result in
-    r .place-answer .result ≡ placeAnswer (a .strict) (a .c) (limit (a .t)) (p .present) (storageAt (a .w .now) p) (storageIn (a .bytes .now))
-    (extentOf (a .t) (layoutOf (a .w .now)) .count)
-answer-is r =
-    let x = laid (found r) in
+abbrev judged : tie.After-is-full → tie.After-judge-place
+judged f = f .before .before .before
+
+full-is : (f : tie.After-is-full) → f .is-full .result ≡ fullIn (found (judged f))
+full-is f =
+    let k = found (judged f) in
+    let x = laid k in
     let s = start x in
     let a = s .args in
-    let p = found r .seek .result in
-    r .place-answer .ensures
-    ∙ ap (λ y. placeAnswer (a .strict) (a .c) (limit (a .t)) (p .present) (storageAt (a .w .now) p) (storageIn (a .bytes .now)) (y .count))
-    (x .extent-of .ensures ∙ ap (extentOf (a .t)) (s .pre .0 .1))
+    f .is-full .ensures
+    ∙ ap (λ y. fullAt (a .c) (k .seek .result .present) (limit (a .t)) (y .count)) (x .extent-of .ensures ∙ ap (extentOf (a .t)) (s .pre .0 .laid))
+
+-- nothing stands against it, and there is room
+done-is : (e : tie.Else1) → let k = found (judged (e .before)) in placed (faultIn k) (fullIn k) ≡ Done
+done-is e =
+    let f = e .before in
+    let r = judged f in
+    placed-room (faultIn (found r)) (sym (r .judge-place .ensures) ∙ f .before .enum-told .given .1) (sym (full-is f) ∙ e .if1 .left)
 
 part-seek-end : tie.Need-part-seek-end
-part-seek-end c = let s = start (c .before) in omega (arith, key-within (s .args .c) (s .args .t) (s .args .bytes .now) (s .pre .1 .0), s .pre .1 .1)
+part-seek-end c =
+    let s = start (c .before) in omega (arith, key-within (s .args .c) (s .args .t) (s .args .bytes .now) (s .pre .1 .whole), s .pre .1 .key-is)
 
 seek-requires : tie.Need-seek-requires
-seek-requires c κs = let x = c .before .before in let s = start x in inside-laid (s .pre .0 .0) (s .pre .0 .1) (s .args .t) (x .extent-of .ensures)
+seek-requires c κs =
+    let x = c .before .before in let s = start x in inside-laid (s .pre .0 .sound) (s .pre .0 .laid) (s .args .t) (x .extent-of .ensures)
 
-place-answer-requires : tie.Need-place-answer-requires
-place-answer-requires c κs =
+judge-place-requires : tie.Need-judge-place-requires
+judge-place-requires c κs =
     let k = c .before in
     let x = laid k in
     let s = start x in
-    storage-known _ _ (s .pre .0 .0) (store-bytes x) (s .args .strict) (s .pre .0 .2) _ (handed-bytes x) (sought k) (s .args .c) (s .pre .1 .0)
+    storage-known _ _ (s .pre .0 .sound) (store-bytes x) (s .args .strict) (s .pre .0 .free) _ (handed-bytes x) (sought k) (s .args .c) (s .pre .1 .whole)
 
 returns : tie.Need-returns
 returns c =
@@ -71,44 +94,57 @@ returns c =
     let k = found r in
     let x = laid k in
     let s = start x in
-    change-refused _ _ (s .pre .0 .0) (store-bytes x) (s .args .strict) (s .pre .0 .2) _ (handed-bytes x) (sought k) (s .args .c) (s .pre .1 .0)
-    _ (answer-is r) (not-done _ (c .match .keys2))
+    change-refused _ _ (s .pre .0 .sound) (store-bytes x) (s .args .strict) (s .pre .0 .free) _ (handed-bytes x) (sought k) (s .args .c)
+    (s .pre .1 .whole) _ (placed-judged (faultIn k) (fullIn k) (r .judge-place .ensures) (not-done _ (c .match .keys2))) (not-done _ (c .match .keys2))
+
+returns-2 : tie.Need-returns-2
+returns-2 c =
+    let f = c .before in
+    let r = judged f in
+    let k = found r in
+    let x = laid k in
+    let s = start x in
+    change-refused _ _ (s .pre .0 .sound) (store-bytes x) (s .args .strict) (s .pre .0 .free) _ (handed-bytes x) (sought k) (s .args .c)
+    (s .pre .1 .whole) _
+    (placed-full (faultIn k) (sym (r .judge-place .ensures) ∙ f .before .enum-told .given .1) (sym (full-is f) ∙ c .if1 .taken)) faulty-done
 
 end-of-requires : tie.Need-end-of-requires
-end-of-requires c κs = let s = start (laid (found (c .before .before .before .before))) in views-laid (s .pre .0 .0) (s .pre .0 .1)
+end-of-requires c κs =
+    let s = start (laid (found (judged (c .before .before .before)))) in views-laid (s .pre .0 .sound) (s .pre .0 .laid)
 
 part-exchange-end : tie.Need-part-exchange-end
 part-exchange-end c =
     let n = c .before in
-    let s = start (laid (found (n .before .before .before .before .before .before))) in
+    let s = start (laid (found (judged (n .before .before .before .before .before)))) in
     taken-within (s .args .c) (s .args .bytes .now) (n .length-in .ensures)
+
+abbrev else-of : tie.After-length-in → tie.Else1
+else-of n = n .before .before .before .before
 
 exchange-requires : tie.Need-exchange-requires
 exchange-requires c κs =
     let n = c .before .before in
-    let m = n .before .before .before .before in
-    let r = m .before .before in
-    let k = found r in
+    let e = else-of n in
+    let k = found (judged (e .before)) in
     let x = laid k in
     let s = start x in
-    change-asked _ _ (s .pre .0 .0) (store-bytes x) (s .args .strict) (s .pre .0 .2) _ (handed-bytes x) (sought k) (s .args .c) (s .pre .1 .0)
-    (sym (answer-is r) ∙ m .enum-told .given .1) (s .pre .0 .1) (x .extent-of .ensures) (n .before .end-of .ensures) (n .length-in .ensures)
+    change-asked _ _ (s .pre .0 .sound) (store-bytes x) (s .args .strict) (s .pre .0 .free) _ (handed-bytes x) (sought k) (s .args .c) (s .pre .1 .whole)
+    (done-is e) (s .pre .0 .laid) (x .extent-of .ensures) (n .before .end-of .ensures) (n .length-in .ensures)
 
-returns-2 : tie.Need-returns-2
-returns-2 c =
-    let e = c .before .before in
-    let n = e .before .before .before in
-    let m = n .before .before .before .before in
-    let r = m .before .before in
-    let k = found r in
+returns-3 : tie.Need-returns-3
+returns-3 c =
+    let y = c .before .before in
+    let n = y .before .before .before in
+    let e = else-of n in
+    let k = found (judged (e .before)) in
     let x = laid k in
     let s = start x in
-    change-done _ _ (s .pre .0 .0) (store-bytes x) (s .args .strict) (s .pre .0 .2) _ (handed-bytes x) (sought k) (s .args .c) (s .pre .1 .0)
-    (sym (answer-is r) ∙ m .enum-told .given .1) (n .length-in .ensures) (e .exchange .ensures)
+    change-done _ _ (s .pre .0 .sound) (store-bytes x) (s .args .strict) (s .pre .0 .free) _ (handed-bytes x) (sought k) (s .args .c) (s .pre .1 .whole)
+    (done-is e) (n .length-in .ensures) (y .exchange .ensures)
 
 pub change-spec : {M : Type 1} → statement M
 change-spec =
     tie.close
-    (tie.spec (λ c κs. search needs) (λ c. search needs) (λ c. search needs) part-seek-end seek-requires place-answer-requires
-    (λ c. search needs) (λ c. search needs) returns end-of-requires (λ c κs. search needs) (λ c. search needs) (λ c. search needs)
-    part-exchange-end exchange-requires (λ c. search needs) returns-2)
+    (tie.spec (λ c κs. search needs) (λ c. search needs) (λ c. search needs) part-seek-end seek-requires judge-place-requires (λ c. search needs)
+    (λ c. search needs) returns (λ c κs. search needs) (λ c. search needs) returns-2 end-of-requires (λ c κs. search needs) (λ c. search needs)
+    (λ c. search needs) part-exchange-end exchange-requires (λ c. search needs) returns-3)

@@ -1,9 +1,10 @@
 -- `edit_rules::admit` meets its contract: each return is a case of `admission`, once the test and the judgement before it are known. Assumes nothing.
 use mathlib.Core.Bool.{false}
 use mathlib.Core.Path.{_≡_, sym, ap₂, _∙_}
+use Rattle.rows.specs.declared.Operation.the-variants.{Remove}
 use borrow.Author.Needs.{needs}
 use Rattle.image_judge.specs.Faults.{tablesAt}
-use Rattle.edit_rules.specs.Edits.{callerOf, remove, isContext, judgement}
+use Rattle.edit_rules.specs.Edits.{callerOf, editOf, isContext, judgement}
 use Rattle.edit_rules.specs.Admission.{admission}
 use Rattle.edit_rules.proofs.admit.Statement.{statement}
 use Rattle.edit_rules.proofs.admit.Tie as tie
@@ -20,7 +21,7 @@ judge-edit-requires c κs = start (c .before) .pre
 -- the row is of no context, and what was judged
 judged : (j : tie.After-judge-edit) → let a = start (j .before .before) .args in
     admission false (j .judge-edit .result) ≡ admission (isContext (a .t))
-    (judgement (tablesAt (a .w .now) (a .l)) (callerOf (a .security-model) (a .security-name .now) (a .security-level)) (remove (a .t) (a .key .now)))
+    (judgement (tablesAt (a .w .now) (a .l)) (callerOf (a .security-model) (a .security-name .now) (a .security-level)) (editOf Remove (a .t) (a .key .now)))
 judged j = let e = j .before in ap₂ admission (sym (e .if1 .left) ∙ e .before .is-context .ensures) (j .judge-edit .ensures)
 
 returns-2 : tie.Need-returns-2

@@ -8,7 +8,7 @@ use Rattle.edit_rules.proofs.may_change.Statement.{statement}
 use Rattle.edit_rules.proofs.may_change.Tie as tie
 
 storage-requires : tie.Need-storage-requires
-storage-requires c κs = c .before .before .before .before .before .pre .1 (c .enum-told .given .1)
+storage-requires c κs = c .before .before .before .before .before .pre .of-put (c .enum-told .given .1)
 
 returns : tie.Need-returns
 returns c =

@@ -27,8 +27,10 @@ facts k =
 change-requires : tie.Need-change-requires
 change-requires c κs =
     let k = c .before in
-    let a = start k .args in
-    ((facts k .0, facts k .2, λ e. clash e refl), (ready-whole (a .c) (a .t) (a .store .now) (a .bytes .now) (facts k .1), facts k .3))
+    let a = start k .args in (
+      record { sound = facts k .0; laid = facts k .2; free = λ e. clash e refl },
+      record { whole = ready-whole (a .c) (a .t) (a .store .now) (a .bytes .now) (facts k .1); key-is = facts k .3 },
+    )
 
 returns : tie.Need-returns
 returns c =

@@ -1,7 +1,7 @@
 -- `edits::principal_edit` meets its contract. What is not ready is refused; a caller out of its ranges is 7; what is not admitted is 12 or 1 to 5,
 -- an edit being judged as the removal of the key at the front of its bytes; otherwise what `change` leaves is what the principal's edit says
 -- (`Calls`). Assumes nothing.
-use mathlib.Core.Path.{_≡_, sym, ap, ap₂, _∙_}
+use mathlib.Core.Path.{_≡_, sym, ap, _∙_}
 use mathlib.Core.Bool.{true}
 use mathlib.Core.Option.{none}
 use native.Mathlib.Omega.{arith}
@@ -13,12 +13,13 @@ use Rattle.big_endian.specs.BigEndian.{Octets}
 use Rattle.image_layout.specs.Layout.{layoutOf}
 use Rattle.image_judge.specs.Faults.{tablesAt}
 use Rattle.image.specs.Store.{isSound}
-use Rattle.edit_rules.specs.Edits.{Caller, callerOf, Edit, remove, tableOf, editOf, fieldsOf, legalCaller, legalEdit, judgement, isContext}
+use Rattle.rows.specs.declared.Operation.the-variants.{Remove}
+use Rattle.edit_rules.specs.Edits.{Caller, callerOf, Edit, editOf, fieldsOf, legalCaller, legalEdit, judgement, isContext}
 use Rattle.edit_rows.proofs.Stores.{sound-laid, key-within}
 use Rattle.edit_rules.specs.declared.Admission.the-variants.{Granted}
 use Rattle.edit_rules.specs.Admission.{admission}
 use Rattle.edit_rules.proofs.Judgements.{key-part, key-legal, key-judged}
-use Rattle.edits.proofs.Calls.{table-is, ready, ready-whole, unready-principal, granted-free, caller-illegal, principal-denied, principal-granted}
+use Rattle.edits.proofs.Calls.{ready, ready-whole, unready-principal, granted-free, caller-illegal, principal-denied, principal-granted}
 use Rattle.edits.proofs.principal_edit.Statement.{statement}
 use Rattle.edits.proofs.principal_edit.Tie as tie
 
@@ -57,7 +58,7 @@ abbrev legal-at : tie.After-admit → tie.Else1
 legal-at j = j .before .before .before
 
 admitted : (j : tie.After-admit) → let k = ready-at (legal-at j) in let s = start k in
-    j .admit .result ≡ admission (isContext (tableOf (wanted s))) (judgement (tablesAt (s .args .store .now) (k .before .prepared2 .given .0 .0))
+    j .admit .result ≡ admission (isContext (wanted s .table)) (judgement (tablesAt (s .args .store .now) (k .before .prepared2 .given .0 .0))
     (caller s) (wanted s))
 admitted j =
     let k = ready-at (legal-at j) in
@@ -65,8 +66,8 @@ admitted j =
     let a = s .args in
     let T = tablesAt (a .store .now) (k .before .prepared2 .given .0 .0) in
     j .admit .ensures
-    ∙ ap₂ admission (ap isContext (sym (table-is (a .c) (a .t) (a .bytes .now))))
-    (ap (λ v. judgement T (caller s) (remove (a .t) v)) (key-part (a .t) (a .bytes .now) (sym (facts k .3)))
+    ∙ ap (admission (isContext (a .t)))
+    (ap (λ v. judgement T (caller s) (editOf Remove (a .t) v)) (key-part (a .t) (a .bytes .now) (sym (facts k .3)))
     ∙ key-judged (a .c) (a .t) (a .bytes .now) (handed-bytes k) (whole k) T (caller s))
 
 returns : tie.Need-returns
@@ -100,15 +101,17 @@ returns-2 c =
 
 -- the edit is admitted
 granted : (m : tie.After-enum-told) → let k = ready-at (legal-at (m .before .before)) in let s = start k in
-    Granted ≡ admission (isContext (tableOf (wanted s))) (judgement (tablesAt (s .args .store .now) (k .before .prepared2 .given .0 .0)) (caller s) (wanted s))
+    Granted ≡ admission (isContext (wanted s .table)) (judgement (tablesAt (s .args .store .now) (k .before .prepared2 .given .0 .0)) (caller s) (wanted s))
 granted m = sym (m .enum-told .given .1) ∙ admitted (m .before .before)
 
 change-requires : tie.Need-change-requires
 change-requires c κs =
     let m = c .before in
     let k = ready-at (legal-at (m .before .before)) in
-    let a = start k .args in
-    ((facts k .0, facts k .2, λ e. ap isContext (sym (table-is (a .c) (a .t) (a .bytes .now))) ∙ granted-free _ _ (granted m)), (whole k, facts k .3))
+    let a = start k .args in (
+      record { sound = facts k .0; laid = facts k .2; free = λ e. granted-free _ _ (granted m) },
+      record { whole = whole k; key-is = facts k .3 },
+    )
 
 returns-3 : tie.Need-returns-3
 returns-3 c =

@@ -1,0 +1,68 @@
+-- `edit_rows::judge_place` meets its contract: a removal of a row that is not held is refused as it is; past that, the storage, or that the owner
+-- edits, decides. Assumes nothing.
+use mathlib.Core.Path.{_≡_, refl, sym, _∙_}
+use mathlib.Core.Bool.{cond, not, _&&_}
+use mathlib.Core.Option.{Option, none, some}
+use borrow.Author.Needs.{needs}
+use borrow.Author.Tests.{not-true, not-false}
+use Rattle.answers.specs.declared.Fault.{Fault}
+use Rattle.answers.specs.declared.Fault.the-variants.{StorageForbids}
+use Rattle.rows.specs.Fields.{orElse}
+use Rattle.edit_rules.specs.declared.Edited.{Edited}
+use Rattle.edit_rules.specs.declared.Edited.the-variants.{Done}
+use Rattle.edit_rules.specs.Edits.{faulted, absentFault}
+use Rattle.edit_rules.specs.Storage.{storageIn, storageAt, mayChange}
+use Rattle.edit_rows.proofs.Stores.{faulty-done, not-done}
+use Rattle.edit_rows.proofs.judge_place.Statement.{statement}
+use Rattle.edit_rows.proofs.judge_place.Tie as tie
+
+-- the first fault stands; where there is none, the second decides
+first-fault : (f g : Option Fault) {r : Edited} → r ≡ faulted f → (r ≡ Done → ⊥) → r ≡ faulted (orElse f g)
+first-fault none g e m = absurd (m e)
+first-fault (some f) g e m = e
+
+second-fault : (f g : Option Fault) → faulted f ≡ Done → faulted (orElse f g) ≡ faulted g
+second-fault none g e = refl
+second-fault (some f) g e = absurd (faulty-done e)
+
+-- what the storage has against it
+abbrev second : tie.Start → Option Fault
+second s =
+    let a = s .args in
+    cond (a .strict && not (mayChange (a .c) (storageAt (a .w .now) (a .p)) (storageIn (a .bytes .now)))) (some StorageForbids) none
+
+-- a row is there where one must be
+there : (t : tie.After-enum-told) → let a = t .before .before .before .before .before .args in faulted (absentFault (a .c) (a .p .present)) ≡ Done
+there t = sym (t .before .before .judge-presence .ensures) ∙ t .enum-told .given .1
+
+passed : (t : tie.After-enum-told) → let s = t .before .before .before .before .before in
+    faulted (orElse (absentFault (s .args .c) (s .args .p .present)) (second s)) ≡ faulted (second s)
+passed t = let s = t .before .before .before .before .before in second-fault (absentFault (s .args .c) (s .args .p .present)) (second s) (there t)
+
+returns : tie.Need-returns
+returns c =
+    let s = c .before .before .before .before in
+    first-fault (absentFault (s .args .c) (s .args .p .present)) (second s) (c .before .judge-presence .ensures) (not-done _ (c .match .keys2))
+
+may-change-requires : tie.Need-may-change-requires
+may-change-requires c κs = c .before .before .before .before .before .before .pre (c .if1 .taken)
+
+returns-2 : tie.Need-returns-2
+returns-2 c =
+    let m = c .before in
+    let t = m .before .before in
+    rw (passed t, m .before .if1 .taken, sym (m .may-change .ensures) ∙ not-true _ (c .if2 .taken))
+
+returns-3 : tie.Need-returns-3
+returns-3 c =
+    let m = c .before in
+    let t = m .before .before in
+    rw (passed t, m .before .if1 .taken, sym (m .may-change .ensures) ∙ not-false _ (c .if2 .left))
+
+returns-4 : tie.Need-returns-4
+returns-4 c = rw (passed (c .before), c .if1 .left)
+
+pub judge-place-spec : {M : Type 1} → statement M
+judge-place-spec =
+    tie.close
+    (tie.spec (λ c κs. search needs) (λ c. search needs) returns may-change-requires returns-2 returns-3 returns-4)
