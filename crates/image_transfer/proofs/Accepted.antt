@@ -10,12 +10,12 @@ use borrow.Author.Tests.{eq-eqb, le-ltb}
 use Rattle.rows.specs.declared.Table.{Table}
 use Rattle.rows.specs.declared.Table.the-variants.{Context, Mapping, Access, View}
 use Rattle.rows.specs.Rows.{limit}
-use Rattle.image_layout.specs.Layout.{count, header, layoutOf}
+use Rattle.image_layout.specs.Layout.{count, header, layoutOf, imageEnd}
 use Rattle.image_judge.specs.Faults.{tableFault, rowsFault}
 use Rattle.image.specs.Image.{sizedFault, imageFault}
 use Rattle.image.specs.Store.{room}
 use Rattle.image.proofs.Surveys.{image-tests, image-layout}
-use Rattle.table_update.specs.Exchange.{tableRows, imageEnd}
+use Rattle.table_update.specs.Exchange.{tableRows}
 use Rattle.image_layout.proofs.Limits.{within-limits, limits-within}
 use Rattle.table_update.proofs.Stores.{countOf, length-table}
 use Rattle.table_update.proofs.Rooms.{rows-room}

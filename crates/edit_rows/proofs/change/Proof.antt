@@ -6,8 +6,8 @@ use native.Mathlib.Omega.{arith}
 use borrow.Author.Needs.{needs}
 use Rattle.rows.specs.Rows.{limit}
 use Rattle.big_endian.specs.BigEndian.{Octets}
-use Rattle.image_layout.specs.Layout.{layoutOf}
-use Rattle.table_update.specs.Exchange.{extentOf, Sought}
+use Rattle.image_layout.specs.Layout.{layoutOf, extentOf}
+use Rattle.table_update.specs.Exchange.{Sought}
 use Rattle.table_update.proofs.Stores.{rowKey}
 use Rattle.edit_rules.specs.Storage.{storageIn, storageAt, placeAnswer}
 use Rattle.edit_rows.proofs.Stores.{inside-laid, views-laid, sought-laid, not-done, key-within, taken-within, storage-known, change-refused}
