@@ -15,7 +15,7 @@ use Rattle.image_judge.specs.declared.Surveyed.the-variants.{Laid, Bad}
 use Rattle.image_layout.specs.Layout.{header, laidOut, count, imageLength, withinLimits}
 use Rattle.image_judge.specs.Faults.{rowsFault, tablesIn}
 
--- the largest image: the header, and what the row lengths and rows of full tables take
+-- the largest image, document 01's 46,456 bytes: the header, and what the row lengths and rows of full tables take
 abbrev pub room : ℕ
 room = header + 46448
 

@@ -74,13 +74,15 @@ module _ (w : List ℕ) (b : Octets w) (s : (t : Table) → tableFault t [] (tab
   image-again mid rest = rw rows-again (image-rest (tables w) mid rest)
 
   module _ (h : imageEnd w ≤ length w) where
-    -- the image of its tables has what stands there
-    pub with-again : imageOf (tablesIn w) ≡ imageWith (middle w) (tablesIn w)
-    unfolding imageOf
-    with-again = ap (λ m. imageWith m (tablesIn w)) (middle-again w b (omega arith))
+    pub front-with : w ≡ imageWith (middle w) (tablesIn w) ++ drop (imageEnd w) w
+    front-with = image-written w b h ∙ sym (image-again (middle w) (drop (imageEnd w) w))
 
-    pub front-again : w ≡ imageOf (tablesIn w) ++ drop (imageEnd w) w
-    front-again = image-written w b h ∙ sym (image-again (middle w) (drop (imageEnd w) w)) ∙ ap (λ v. v ++ drop (imageEnd w) w) (sym with-again)
+    pub with-middle : imageWith (middle w) (tablesIn w) ≡ imageOf (tablesIn w)
+    unfolding imageOf
+    with-middle = ap (λ m. imageWith m (tablesIn w)) (sym (middle-again w b (omega arith)))
+
+    front-again : w ≡ imageOf (tablesIn w) ++ drop (imageEnd w) w
+    front-again = front-with ∙ ap (λ v. v ++ drop (imageEnd w) w) with-middle
 
     pub length-again : length (imageOf (tablesIn w)) ≡ imageEnd w
     length-again =

@@ -1,5 +1,6 @@
--- An accepted image is what is written of its own tables, so that whatever lies behind it the tables are the same: a store with the image
--- at its front is sound and holds them. And what is written of a sound store's tables is an accepted image of the same. Assumes nothing.
+-- An accepted image is what is written of its own tables, with what stands behind its counts, so that whatever lies behind it the tables are
+-- the same: a store with the image at its front is sound and holds them. And what is written of a sound store's tables, with any bytes
+-- behind the counts, is an accepted image of the same. Assumes nothing.
 use mathlib.Core.Path.{_≡_, refl, sym, ap, _∙_}
 use mathlib.Core.Bool.{true}
 use mathlib.Core.List.{List, [], _++_, map, append-nil}
@@ -24,7 +25,7 @@ use Rattle.table_update.proofs.Images.{image, length-middle, tables-read, table
 use Rattle.table_update.proofs.Stores.{SoundStore, sound-store}
 use Rattle.image_transfer.specs.Transfer.{imageWith, imageOf}
 use Rattle.image_transfer.proofs.Accepted.{Accepted}
-use Rattle.image_transfer.proofs.Again.{image-again, with-again, front-again}
+use Rattle.image_transfer.proofs.Again.{image-again, front-with, with-middle}
 
 -- ---- bytes with the same rows
 
@@ -53,16 +54,19 @@ module _ (w : List ℕ) (b : Octets w) (a : Accepted w) where
   there : imageEnd w ≤ length w
   there = omega (arith, a .end-is)
 
-  pub accepted-again : imageOf (tablesIn w) ≡ w
-  accepted-again =
+  accepted-with : w ≡ imageWith (middle w) (tablesIn w)
+  accepted-with =
+      let v = imageWith (middle w) (tablesIn w) in
       let e : drop (imageEnd w) w ≡ [] = ap (λ n. drop n w) (a .end-is) ∙ drop-length w in
-      sym (front-again w b (a .rows-sound) there ∙ ap (λ r. imageOf (tablesIn w) ++ r) e ∙ append-nil (imageOf (tablesIn w)))
+      front-with w b (a .rows-sound) there ∙ ap (λ r. v ++ r) e ∙ append-nil v
+
+  pub accepted-again : imageOf (tablesIn w) ≡ w
+  accepted-again = sym (accepted-with ∙ with-middle w b (a .rows-sound) there)
 
   -- at the front of a store
   module _ (v rest : List ℕ) (e : v ≡ w ++ rest) (s : length v ≡ room) where
     written : v ≡ image (tables w) (middle w) rest
-    written =
-        e ∙ ap (λ u. u ++ rest) (sym accepted-again ∙ with-again w b (a .rows-sound) there) ∙ image-again w b (a .rows-sound) (middle w) rest
+    written = e ∙ ap (λ u. u ++ rest) accepted-with ∙ image-again w b (a .rows-sound) (middle w) rest
 
     size : countsSize + length (middle w) ≡ header
     size = length-middle w (omega (arith, there))

@@ -24,7 +24,7 @@ use Rattle.image_transfer.specs.declared.Loaded.the-variants.{Done}
 use Rattle.image_transfer.specs.Transfer.{imageWith, imageOf, overlaid, loaded, writtenOf, bufferOf, Writes}
 use Rattle.image_transfer.specs.Inverse.{WrittenIsRead, ReadIsWritten, OnlyImage, Restores, Rewrites}
 use Rattle.image_transfer.proofs.Accepted.{accepted-image, image-accepted}
-use Rattle.image_transfer.proofs.Again.{with-again}
+use Rattle.image_transfer.proofs.Again.{with-middle}
 use Rattle.image_transfer.proofs.Fronts.{accepted-again, accepted-written, tables-written}
 
 -- a store that holds tables is sound, and they are its own
@@ -42,9 +42,9 @@ written-is-read w t b e =
     let s = store-sound w (h .0) in
     let m = middle w in
     let n : countsSize + length m ≡ header = length-middle w (omega (arith, s .end-in)) in
-    let v : imageOf (tablesIn w) ≡ imageWith m (tablesIn w) = with-again w b (s .rows-sound) (s .end-in) in
     subst (λ u. (imageFault (imageOf u) ≡ none) × (tablesIn (imageOf u) ≡ u)) (h .1)
-    (ap imageFault v ∙ accepted-image (imageWith m (tablesIn w)) (accepted-written w b s m n), ap tablesIn v ∙ tables-written w b s m n)
+    (subst (λ v. (imageFault v ≡ none) × (tablesIn v ≡ tablesIn w)) (with-middle w b (s .rows-sound) (s .end-in))
+    (accepted-image (imageWith m (tablesIn w)) (accepted-written w b s m n), tables-written w b s m n))
 
 pub read-is-written : ReadIsWritten
 read-is-written w b h = accepted-again w b (image-accepted w h)

@@ -14,10 +14,9 @@ use lib.Seq.{drop-cons, drop-drop, length-take-le, set-append-left}
 use borrow.Author.Tests.{lt-ltb, eq-eqb, ne-eqb, eqb-true}
 use Rattle.lists.proofs.Bools.{split, test-ext}
 use Rattle.rows.specs.declared.Table.{Table}
-use Rattle.rows.specs.declared.Table.the-variants.{Context, Mapping, Access, View}
 use Rattle.big_endian.specs.BigEndian.{Octets}
 use Rattle.image_layout.specs.declared.Extent.{Extent}
-use Rattle.image_layout.specs.Layout.{total, lengthsIn, rowsIn, endOf, countsSize, header, middle, layoutOf, rowCount, imageEnd, mostRows}
+use Rattle.image_layout.specs.Layout.{total, lengthsIn, rowsIn, endOf, countsSize, header, middle, rowCount, imageEnd, mostRows}
 use Rattle.splice.specs.Splice.{splicedTwo}
 use Rattle.table_update.specs.declared.Place.{Place}
 use Rattle.table_update.specs.Exchange.{position, countAt, tableRows, oneIf, TablePlace, exchanged, oneRow, Exchanges}

@@ -20,9 +20,9 @@ use Rattle.rows.specs.Fields.{faults, span}
 use Rattle.rows.specs.Rows.{keyFields, rowFields, limit, indexOf}
 use Rattle.big_endian.specs.BigEndian.{Octets}
 use Rattle.image_layout.specs.declared.Extent.{Extent}
-use Rattle.image_layout.specs.Layout.{rowsIn, count, rowCount, imageEnd, mostRows, layoutOf, laidOut, extentOf}
+use Rattle.image_layout.specs.Layout.{rowsIn, count, rowCount, imageEnd, withinLimits, mostRows, layoutOf, laidOut, extentOf}
 use Rattle.image_layout.proofs.Limits.{within-limits, limits-within, few}
-use Rattle.image_judge.specs.Faults.{tableFault, rowsFault}
+use Rattle.image_judge.specs.Faults.{tableFault, rowsFault, SoundLayout}
 use Rattle.image.specs.Store.{room, soundRows, isSound}
 use Rattle.image_judge.proofs.Keys.{stands-nil}
 use Rattle.image_judge.proofs.Sound.{ascends-rows}
@@ -51,6 +51,23 @@ length-table Mapping w = length-rows w (extentOf Mapping (layoutOf w))
 length-table Access w = length-rows w (extentOf Access (layoutOf w))
 length-table View w = length-rows w (extentOf View (layoutOf w))
 
+-- what passed the tests, by table
+pub within-rows : (w : List ℕ) → withinLimits (count 0 w) (count 1 w) (count 2 w) (count 3 w) ≡ true → (t : Table) → length (tableRows t w) ≤ limit t
+within-rows w h t = by-table t (limits-within (count 0 w) (count 1 w) (count 2 w) (count 3 w) h)
+  where
+    by-table : (t : Table) → (count 0 w ≤ limit Context) × (count 1 w ≤ limit Mapping) × (count 2 w ≤ limit Access) × (count 3 w ≤ limit View)
+        → length (tableRows t w) ≤ limit t
+    by-table Context l = omega (arith, length-table Context w, l .0)
+    by-table Mapping l = omega (arith, length-table Mapping w, l .1)
+    by-table Access l = omega (arith, length-table Access w, l .2)
+    by-table View l = omega (arith, length-table View w, l .3)
+
+pub layout-rows : (w : List ℕ) → SoundLayout w (layoutOf w) → (t : Table) → tableFault t [] (tableRows t w) ≡ none
+layout-rows w l Context = l .contexts-sound .rows-sound
+layout-rows w l Mapping = l .mappings-sound .rows-sound
+layout-rows w l Access = l .accesses-sound .rows-sound
+layout-rows w l View = l .views-sound .rows-sound
+
 pub sound-store : (w : List ℕ) → SoundStore w → isSound w ≡ true
 unfolding isSound soundRows layoutOf rowsFault
 sound-store w s =
@@ -63,24 +80,13 @@ module _ (w : List ℕ) (h : isSound w ≡ true) where
   pub sound-few : rowCount w ≤ mostRows
   sound-few = few (count 0 w) (count 1 w) (count 2 w) (count 3 w) (store-tests w h .1)
 
-  few-rows : (t : Table) → length (tableRows t w) ≤ limit t
-  few-rows t = by-table t (limits-within (count 0 w) (count 1 w) (count 2 w) (count 3 w) (store-tests w h .1))
-    where
-      by-table : (t : Table) → (count 0 w ≤ limit Context) × (count 1 w ≤ limit Mapping) × (count 2 w ≤ limit Access) × (count 3 w ≤ limit View)
-          → length (tableRows t w) ≤ limit t
-      by-table Context l = omega (arith, length-table Context w, l .0)
-      by-table Mapping l = omega (arith, length-table Mapping w, l .1)
-      by-table Access l = omega (arith, length-table Access w, l .2)
-      by-table View l = omega (arith, length-table View w, l .3)
-
   sound-table : (t : Table) → tableFault t [] (tableRows t w) ≡ none
-  sound-table Context = sound-layout w h .contexts-sound .rows-sound
-  sound-table Mapping = sound-layout w h .mappings-sound .rows-sound
-  sound-table Access = sound-layout w h .accesses-sound .rows-sound
-  sound-table View = sound-layout w h .views-sound .rows-sound
+  sound-table = layout-rows w (sound-layout w h)
 
   pub store-sound : SoundStore w
-  store-sound = record { size-is = store-tests w h .0; few = few-rows; end-in = store-tests w h .2; rows-sound = sound-table }
+  store-sound =
+      let t = store-tests w h in
+      record { size-is = t .0; few = within-rows w (t .1); end-in = t .2; rows-sound = sound-table }
 
 -- the rows of each table are whole, and their indices ascend
 pub sound-whole : (t : Table) (w : List ℕ) → isSound w ≡ true → Octets w → Whole t (tableRows t w)
