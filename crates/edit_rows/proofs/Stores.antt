@@ -7,7 +7,7 @@ use mathlib.Core.Bool.{Bool, true, false}
 use mathlib.Core.List.{List, [], _∷_}
 use mathlib.Core.Logic.{⊎-elim}
 use mathlib.Core.Option.{Option, none, some}
-use Prim.Native.Nat.{ℕ, _+_, _-_, _*_, _≤_, _<_}
+use Prim.Native.Nat.{ℕ, _-_, _≤_, _<_}
 use native.Mathlib.Omega.{arith}
 use lib.Dec.{leb}
 use lib.ListN.{length, take}
@@ -30,12 +30,12 @@ use Rattle.rows.proofs.Inverse.{span-whole}
 use Rattle.big_endian.specs.BigEndian.{Octets}
 use Rattle.image_layout.specs.declared.Layout.{Layout}
 use Rattle.image_layout.specs.declared.Extent.{Extent}
-use Rattle.image_layout.specs.Layout.{Inside, endOf, layoutOf}
+use Rattle.image_layout.specs.Layout.{Inside, endOf, layoutOf, extentOf}
 use Rattle.image_judge.specs.Faults.{SoundLayout, tablesAt}
 use Rattle.image.specs.Store.{isSound, held}
 use Rattle.image.proofs.Surveys.{sound-layout}
 use Rattle.table_update.specs.declared.Place.{Place}
-use Rattle.table_update.specs.Exchange.{extentOf, tableRows, oneIf, rowsBefore, isHeld, PlaceIn, Sought, ImageIn, oneRow, Exchanges}
+use Rattle.table_update.specs.Exchange.{tableRows, oneIf, rowsBefore, isHeld, Sought, ImageIn, TablePlace, RoomFor, oneRow, Exchanges}
 use Rattle.table_update.proofs.Splits.{length-rows}
 use Rattle.table_update.proofs.Stores.{rowKey, sound-whole, sound-ascends, sound-put, sound-removed, sought-exchanges, one-row}
 use Rattle.table_update.proofs.Rooms.{image-in, room-for, room-removed}
@@ -230,7 +230,7 @@ module _ (t : Table) (w : List ℕ) (h : isSound w ≡ true) (b : Octets w) (str
   removed-held e = is-true (p .present) (λ m. let z : _≡_ {A = ℕ} 0 1 = cc (absent-done Remove e m .0) in omega arith)
 
   room-taken : (c : Operation) → faults (fieldsOf c t) bytes ≡ none → answerAt c ≡ Done → {end : ℕ} → ImageIn w end
-      → (length (taken c bytes) < 65536) × (end + length (taken c bytes) + 2 ≤ length w + (p .end - p .from) + 2 * oneIf (p .present))
+      → RoomFor w p end (taken c bytes)
   room-taken Put f e i = room-for t w bytes h b d f (room-left e) i s
   room-taken Remove f e i = room-removed p i (removed-held e)
 
@@ -261,12 +261,11 @@ module _ (t : Table) (w : List ℕ) (h : isSound w ≡ true) (b : Octets w) (str
     module _ (e : answerAt c ≡ Done) where
       -- what exchanging asks
       pub change-asked : {l : Layout} {x : Extent} {end k : ℕ} → l ≡ layoutOf w → x ≡ extentOf t l → end ≡ endOf w (l .views) → k ≡ lengthIn c (length bytes)
-          → (ImageIn w end × (x ≡ extentOf t (layoutOf w)) × PlaceIn w x p)
-          × ((length (take (k - 0) bytes) < 65536) × (end + length (take (k - 0) bytes) + 2 ≤ length w + (p .end - p .from) + 2 * oneIf (p .present)))
+          → TablePlace t w x p end × RoomFor w p end (take (k - 0) bytes)
       change-asked {l} {x} {end} q y v u =
           let i : ImageIn w end = image-laid h q v in
           let z : x ≡ extentOf t (layoutOf w) = y ∙ ap (extentOf t) q in
-          ((i, z, rw z (s .place-in)), rw (taken-is c bytes u) (room-taken c f e i))
+          (record { image-in = i; extent-is = z; place-in = rw z (s .place-in) }, rw (taken-is c bytes u) (room-taken c f e i))
 
       pub change-done : {after : List ℕ} {k : ℕ} → k ≡ lengthIn c (length bytes)
           → Exchanges t (p .row) (oneIf (p .present)) (oneRow (take (k - 0) bytes)) w after → Edits (λ ts. edit strict ts (editOf c t bytes)) w after Done

@@ -16,7 +16,7 @@ use Rattle.lists.specs.Lists.{isNone}
 use Rattle.lists.proofs.Bools.{and-left, and-right}
 use Rattle.rows.proofs.Sound.{cond-none}
 use Rattle.image_layout.specs.declared.Layout.{Layout}
-use Rattle.image_layout.specs.Layout.{count, imageLength, withinLimits, header, laidOut, layoutOf}
+use Rattle.image_layout.specs.Layout.{count, imageLength, imageEnd, withinLimits, header, laidOut, layoutOf}
 use Rattle.image_layout.proofs.Layouts.{laid-within}
 use Rattle.image_judge.specs.declared.Surveyed.{Surveyed}
 use Rattle.image_judge.specs.declared.Surveyed.the-variants.{Laid, Bad}
@@ -128,28 +128,25 @@ past-header : (b : Bool) (o : Option Fault) → cond b (some Torn) o ≡ none �
 past-header true o e = cc
 past-header false o e = e
 
-abbrev counted : List ℕ → ℕ
-counted w = count 0 w + count 1 w + count 2 w + count 3 w
-
 pub image-tests : (w : List ℕ) → imageFault w ≡ none
-    → (withinLimits (count 0 w) (count 1 w) (count 2 w) (count 3 w) ≡ true) × (imageLength (counted w) w ≡ length w) × (rowsFault w (layoutOf w) ≡ none)
+    → (withinLimits (count 0 w) (count 1 w) (count 2 w) (count 3 w) ≡ true) × (imageEnd w ≡ length w) × (rowsFault w (layoutOf w) ≡ none)
 unfolding imageFault sizedFault layoutOf
 image-tests w h =
     let p = cond-none (withinLimits (count 0 w) (count 1 w) (count 2 w) (count 3 w)) _ _ (past-header (ltb (length w) header) _ h) in
-    let q = cond-none (eqb (imageLength (counted w) w) (length w)) _ _ (p .1) in
-    (p .0, eqb-true (imageLength (counted w) w) (length w) (q .0), q .1)
+    let q = cond-none (eqb (imageEnd w) (length w)) _ _ (p .1) in
+    (p .0, eqb-true (imageEnd w) (length w) (q .0), q .1)
 
 pub store-tests : (w : List ℕ) → isSound w ≡ true
     → (length w ≡ room) × (withinLimits (count 0 w) (count 1 w) (count 2 w) (count 3 w) ≡ true)
-    × (imageLength (counted w) w ≤ length w) × (rowsFault w (layoutOf w) ≡ none)
+    × (imageEnd w ≤ length w) × (rowsFault w (layoutOf w) ≡ none)
 unfolding isSound soundRows layoutOf
 store-tests w h =
     let a = and-right (eqb (length w) room) _ h in
     let b = and-right (withinLimits (count 0 w) (count 1 w) (count 2 w) (count 3 w)) _ a in
-    let e = leb (imageLength (counted w) w) (length w) in
+    let e = leb (imageEnd w) (length w) in
     (eqb-true (length w) room (and-left _ _ h), and-left _ _ a, leb-true _ _ (and-left e _ b), is-none (rowsFault w _) (and-right e _ b))
 
-within-layout : (w : List ℕ) → imageLength (counted w) w ≤ length w → rowsFault w (layoutOf w) ≡ none → SoundLayout w (layoutOf w)
+within-layout : (w : List ℕ) → imageEnd w ≤ length w → rowsFault w (layoutOf w) ≡ none → SoundLayout w (layoutOf w)
 unfolding layoutOf
 within-layout w l r = sound-tables w (layoutOf w) (laid-within w _ _ _ _ l) r
 

@@ -17,7 +17,7 @@ sizedFault fit w c m a v =
     (cond (fit (imageLength (c + m + a + v) w) (length w)) (rowsFault w (laidOut w c m a v)) (some Torn))
     (some TableFull)
 
--- the image at the front of w; before all, under 8 bytes
+-- the image at the front of w; before all, fewer bytes than its header has
 abbrev pub frontFault : (ℕ → ℕ → Bool) → List ℕ → Option Fault
 frontFault fit w = cond (ltb (length w) header) (some Torn) (sizedFault fit w (count 0 w) (count 1 w) (count 2 w) (count 3 w))
 

@@ -12,12 +12,12 @@ use Rattle.lists.specs.Lists.{isNone}
 use Rattle.rows.specs.Tables.{Tables}
 use Rattle.image_judge.specs.declared.Surveyed.{Surveyed}
 use Rattle.image_judge.specs.declared.Surveyed.the-variants.{Laid, Bad}
-use Rattle.image_layout.specs.Layout.{laidOut, count, imageLength, withinLimits}
+use Rattle.image_layout.specs.Layout.{header, laidOut, count, imageLength, withinLimits}
 use Rattle.image_judge.specs.Faults.{rowsFault, tablesIn}
 
--- the largest image: 46,456 bytes
+-- the largest image, document 01's 46,456 bytes: the header, and what the row lengths and rows of full tables take
 abbrev pub room : ℕ
-room = 46456
+room = header + 46448
 
 -- each count within its limit, the rows within the room, each held field legal, each table ascending
 unfoldable pub soundRows : List ℕ → ℕ → ℕ → ℕ → ℕ → Bool

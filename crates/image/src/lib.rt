@@ -12,8 +12,8 @@ ghost use Rattle.image_judge.specs.Faults.{surveyed};
 ghost use Rattle.image.specs.Image.{fits, frontFault, imageFault};
 ghost use Rattle.image.specs.Store.{storeFault, soundly};
 
-// The bytes of a store: those of the largest image.
-pub const ROOM: usize = 46456;
+// The bytes of a store: those of the largest image, whose row lengths and rows take all but the header.
+pub const ROOM: usize = HEADER + 46448;
 
 fn limited(c: usize, m: usize, a: usize, v: usize) -> bool
     ensures { λ r. ⌜ r ≡ withinLimits c m a v ⌝ }

@@ -63,7 +63,8 @@ fn stopped(s: Step) -> Surveyed
 
 // The rows of all tables judged, of `c`, `m`, `a` and `v` rows, and where the tables lie.
 pub fn judge_rows(w: &[u8], c: usize, m: usize, a: usize, v: usize) -> Surveyed
-    requires { ⌜ (c + m + a + v ≤ mostRows) × (imageLength (c + m + a + v) (now w) ≤ length (now w)) ⌝ }
+    requires few { ⌜ c + m + a + v ≤ mostRows ⌝ }
+    requires inside { ⌜ imageLength (c + m + a + v) (now w) ≤ length (now w) ⌝ }
     ensures { λ r. ⌜ r ≡ surveyed (rowsFault (now (w .entry)) (laidOut (now (w .entry)) c m a v)) (laidOut (now (w .entry)) c m a v) ⌝ }
 {
     let contexts = Extent {

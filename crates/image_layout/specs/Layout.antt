@@ -1,8 +1,9 @@
--- Where the rows of a table image lie (document 01, "The table image"): four 2-byte counts, an array of 2-byte row lengths, the rows.
+-- Where the rows of a table image lie (document 01, "The table image"): a header, which begins with four 2-byte counts, an array of
+-- 2-byte row lengths, the rows.
 -- Assumes nothing.
 use mathlib.Core.List.{List, [], _∷_}
 use mathlib.Core.Bool.{Bool, _&&_}
-use Prim.Native.Nat.{ℕ, zero, suc, _+_, _*_, _≤_}
+use Prim.Native.Nat.{ℕ, zero, suc, _+_, _-_, _*_, _≤_}
 use lib.Dec.{leb}
 use lib.ListN.{length, take, drop, getD}
 use Rattle.rows.specs.declared.Table.{Table}
@@ -52,9 +53,15 @@ pub record Inside (w : List ℕ) (x : Extent) : Type 0 where
 abbrev pub following : List ℕ → Extent → ℕ → Extent
 following w x n = extent (x .lengths + 2 * x .count) (endOf w x) n
 
--- the header: four counts of 2 bytes
+-- the four counts; the header, which is these alone; what stands in it behind the counts
+abbrev pub countsSize : ℕ
+countsSize = 8
+
 abbrev pub header : ℕ
-header = 8
+header = countsSize
+
+abbrev pub middle : List ℕ → List ℕ
+middle w = take (header - countsSize) (drop countsSize w)
 
 -- the layout of c, m, a and v rows
 unfoldable pub laidOut : List ℕ → ℕ → ℕ → ℕ → ℕ → Layout
@@ -81,6 +88,13 @@ layoutOf w = laidOut w (count 0 w) (count 1 w) (count 2 w) (count 3 w)
 -- how many bytes an image of n rows takes, by its lengths
 abbrev pub imageLength : ℕ → List ℕ → ℕ
 imageLength n w = header + 2 * n + total (pairs n (drop header w))
+
+-- how many rows the image at the front of w has, and where it ends
+abbrev pub rowCount : List ℕ → ℕ
+rowCount w = count 0 w + count 1 w + count 2 w + count 3 w
+
+abbrev pub imageEnd : List ℕ → ℕ
+imageEnd w = imageLength (rowCount w) w
 
 -- the counts within document 01's limits, and how many rows that makes at most
 abbrev pub withinLimits : ℕ → ℕ → ℕ → ℕ → Bool

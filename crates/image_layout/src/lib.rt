@@ -1,10 +1,10 @@
-// Where the rows of a table image lie: four counts of two bytes, the rows' lengths of two bytes each, and the rows.
+// Where the rows of a table image lie: the header, the rows' lengths of two bytes each, and the rows.
 ghost use mathlib.Core.Path.{_≡_};
-ghost use Prim.Native.Nat.{_+_, _*_, _≤_, _<_};
+ghost use Prim.Native.Nat.{_+_, _*_, _≤_};
 ghost use lib.ListN.{length, drop};
-ghost use Rattle.image_layout.specs.Layout.{pair, pairs, total, extent, endOf, Inside, header, mostRows, longestSlice};
+ghost use Rattle.image_layout.specs.Layout.{pair, pairs, total, extent, endOf, Inside, header, mostRows, mostPair, longestSlice};
 
-// How many bytes the four counts take.
+// How many bytes stand ahead of the rows' lengths: the four counts.
 pub const HEADER: usize = 8;
 
 // Where a table's rows lie: their 2-byte lengths from `lengths` on, their bytes from `rows` on.
@@ -25,7 +25,8 @@ pub struct Layout {
 // The number that the two bytes at `at` say, big-endian: a count or a row's length.
 pub fn pair_at(w: &[u8], at: usize) -> usize
     requires { ⌜ at + 2 ≤ length (now w) ⌝ }
-    ensures { λ r. ⌜ (r ≡ pair (drop at (now (w .entry)))) × (r < 65536) ⌝ }
+    ensures number { λ r. ⌜ r ≡ pair (drop at (now (w .entry))) ⌝ }
+    ensures bounded { λ r. ⌜ r ≤ mostPair ⌝ }
 {
     let a = big_endian::wide(w[at]);
     let b = big_endian::wide(w[at + 1]);
@@ -34,7 +35,8 @@ pub fn pair_at(w: &[u8], at: usize) -> usize
 
 // The sum of the `n` numbers of two bytes from `at` on.
 pub fn sum(w: &[u8], at: usize, n: usize) -> usize
-    requires { ⌜ (at + 2 * n ≤ length (now w)) × (total (pairs n (drop at (now w))) ≤ longestSlice) ⌝ }
+    requires inside { ⌜ at + 2 * n ≤ length (now w) ⌝ }
+    requires bounded { ⌜ total (pairs n (drop at (now w))) ≤ longestSlice ⌝ }
     ensures { λ r. ⌜ r ≡ total (pairs n (drop at (now (w .entry)))) ⌝ }
 {
     let mut i = 0;

@@ -10,14 +10,14 @@ use borrow.Author.Tests.{eq-eqb, le-ltb}
 use Rattle.rows.specs.declared.Table.{Table}
 use Rattle.rows.specs.declared.Table.the-variants.{Context, Mapping, Access, View}
 use Rattle.rows.specs.Rows.{limit}
-use Rattle.image_layout.specs.Layout.{count, header, layoutOf}
+use Rattle.image_layout.specs.Layout.{count, header, layoutOf, imageEnd}
 use Rattle.image_judge.specs.Faults.{tableFault, rowsFault}
 use Rattle.image.specs.Image.{sizedFault, imageFault}
 use Rattle.image.specs.Store.{room}
 use Rattle.image.proofs.Surveys.{image-tests, image-layout}
-use Rattle.table_update.specs.Exchange.{tableRows, imageEnd}
-use Rattle.image_layout.proofs.Limits.{within-limits, limits-within}
-use Rattle.table_update.proofs.Stores.{countOf, length-table}
+use Rattle.table_update.specs.Exchange.{tableRows}
+use Rattle.image_layout.proofs.Limits.{within-limits}
+use Rattle.table_update.proofs.Stores.{countOf, length-table, within-rows, layout-rows}
 use Rattle.table_update.proofs.Rooms.{rows-room}
 
 pub record Accepted (w : List ℕ) : Type 0 where
@@ -40,27 +40,12 @@ accepted-image w a =
     )
 
 module _ (w : List ℕ) (h : imageFault w ≡ none) where
-  end-is : imageEnd w ≡ length w
-  end-is = image-tests w h .1
-
-  few-rows : (t : Table) → length (tableRows t w) ≤ limit t
-  few-rows t = by-table t (limits-within (count 0 w) (count 1 w) (count 2 w) (count 3 w) (image-tests w h .0))
-    where
-      by-table : (t : Table) → (count 0 w ≤ limit Context) × (count 1 w ≤ limit Mapping) × (count 2 w ≤ limit Access) × (count 3 w ≤ limit View)
-          → length (tableRows t w) ≤ limit t
-      by-table Context l = omega (arith, length-table Context w, l .0)
-      by-table Mapping l = omega (arith, length-table Mapping w, l .1)
-      by-table Access l = omega (arith, length-table Access w, l .2)
-      by-table View l = omega (arith, length-table View w, l .3)
-
-  sound-rows : (t : Table) → tableFault t [] (tableRows t w) ≡ none
-  sound-rows Context = image-layout w h .contexts-sound .rows-sound
-  sound-rows Mapping = image-layout w h .mappings-sound .rows-sound
-  sound-rows Access = image-layout w h .accesses-sound .rows-sound
-  sound-rows View = image-layout w h .views-sound .rows-sound
-
   pub image-accepted : Accepted w
-  image-accepted = record { end-is = end-is; few = few-rows; rows-sound = sound-rows }
+  image-accepted =
+      let t = image-tests w h in
+      record { end-is = t .1; few = within-rows w (t .0); rows-sound = layout-rows w (image-layout w h) }
 
   pub image-room : length w ≤ room
-  image-room = omega (arith, rows-room w (omega (arith, end-is)) few-rows sound-rows, end-is)
+  image-room =
+      let a = image-accepted in
+      omega (arith, rows-room w (omega (arith, a .end-is)) (a .few) (a .rows-sound), a .end-is)

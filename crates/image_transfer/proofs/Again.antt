@@ -1,5 +1,6 @@
 -- The image of the tables that bytes hold is these bytes again. A row's bytes are made again of the fields that they hold, so that the
--- rows of the typed tables, written, are the rows in the bytes (`rows-again`); and an image is what is written of its rows.
+-- rows of the typed tables, written, are the rows in the bytes (`rows-again`); and an image is what is written of its rows, with what
+-- stands behind its counts. That this is what its tables say stands there is one law (`middle-again`); the others hold for any such bytes.
 -- Assumes nothing.
 use mathlib.Core.Path.{_≡_, refl, sym, ap, ap₂, _∙_}
 use mathlib.Core.List.{List, [], _∷_, _++_, map, append-assoc}
@@ -15,14 +16,14 @@ use Rattle.rows.specs.Rows.{rowFields, contextOf, mappingOf, accessOf, viewOf}
 use Rattle.big_endian.specs.BigEndian.{Octets}
 use Rattle.rows.proofs.Inverse.{bytes-again}
 use Rattle.rows.proofs.Typed.{context-fields, mapping-fields, access-fields, view-fields}
-use Rattle.image_layout.specs.Layout.{layoutOf}
+use Rattle.image_layout.specs.Layout.{header, middle, layoutOf, extentOf, imageEnd}
 use Rattle.image_judge.specs.Faults.{tableFault, tablesAt, tablesIn}
 use Rattle.image_layout.specs.Written.{concatenated, heads}
-use Rattle.table_update.specs.Exchange.{extentOf, tableRows, imageEnd}
+use Rattle.table_update.specs.Exchange.{tableRows}
 use Rattle.table_update.proofs.Keys.{Whole, whole-rows}
 use Rattle.table_update.proofs.Splits.{tables}
 use Rattle.table_update.proofs.Images.{image, image-written}
-use Rattle.image_transfer.specs.Transfer.{contextBytes, mappingBytes, accessBytes, viewBytes, rowsOf, imageOf}
+use Rattle.image_transfer.specs.Transfer.{contextBytes, mappingBytes, accessBytes, viewBytes, rowsOf, imageWith, middleOf, imageOf}
 
 -- ---- rows
 
@@ -49,8 +50,13 @@ table-again t of bytes again (r ∷ rs) a = ap₂ (λ x xs. x ∷ xs) (again r (
 -- ---- the image
 
 -- its parts, with what lies behind it
-pub image-rest : (ts : List (List (List ℕ))) (rest : List ℕ) → (heads ts ++ (heads (concatenated ts) ++ concatenated (concatenated ts))) ++ rest ≡ image ts rest
-image-rest ts rest = simp append-assoc
+pub image-rest : (ts : List (List (List ℕ))) (mid rest : List ℕ)
+    → (heads ts ++ (mid ++ (heads (concatenated ts) ++ concatenated (concatenated ts)))) ++ rest ≡ image ts mid rest
+image-rest ts mid rest = simp append-assoc
+
+-- what stands behind the counts of w is what its tables have there
+pub middle-again : (w : List ℕ) → Octets w → header ≤ length w → middleOf (tablesIn w) ≡ middle w
+middle-again w b h = refl
 
 module _ (w : List ℕ) (b : Octets w) (s : (t : Table) → tableFault t [] (tableRows t w) ≡ none) where
   whole : (t : Table) → Whole t (tableRows t w)
@@ -64,13 +70,19 @@ module _ (w : List ℕ) (b : Octets w) (s : (t : Table) → tableFault t [] (tab
       (ap₂ (λ x xs. x ∷ xs) (table-again Access accessOf accessBytes access-again (tableRows Access w) (whole Access))
       (ap (λ x. x ∷ []) (table-again View viewOf viewBytes view-again (tableRows View w) (whole View)))))
 
-  pub image-again : (rest : List ℕ) → imageOf (tablesIn w) ++ rest ≡ image (tables w) rest
-  unfolding imageOf
-  image-again rest = rw rows-again (image-rest (tables w) rest)
+  pub image-again : (mid rest : List ℕ) → imageWith mid (tablesIn w) ++ rest ≡ image (tables w) mid rest
+  image-again mid rest = rw rows-again (image-rest (tables w) mid rest)
 
   module _ (h : imageEnd w ≤ length w) where
-    pub front-again : w ≡ imageOf (tablesIn w) ++ drop (imageEnd w) w
-    front-again = image-written w b h ∙ sym (image-again (drop (imageEnd w) w))
+    pub front-with : w ≡ imageWith (middle w) (tablesIn w) ++ drop (imageEnd w) w
+    front-with = image-written w b h ∙ sym (image-again (middle w) (drop (imageEnd w) w))
+
+    pub with-middle : imageWith (middle w) (tablesIn w) ≡ imageOf (tablesIn w)
+    unfolding imageOf
+    with-middle = ap (λ m. imageWith m (tablesIn w)) (sym (middle-again w b (omega arith)))
+
+    front-again : w ≡ imageOf (tablesIn w) ++ drop (imageEnd w) w
+    front-again = front-with ∙ ap (λ v. v ++ drop (imageEnd w) w) with-middle
 
     pub length-again : length (imageOf (tablesIn w)) ≡ imageEnd w
     length-again =

@@ -15,13 +15,12 @@ use Rattle.lists.proofs.Bools.{cond-true}
 use Rattle.big_endian.specs.BigEndian.{Octets}
 use Rattle.image_layout.specs.declared.Extent.{Extent}
 use Rattle.image_layout.specs.declared.Layout.{Layout}
-use Rattle.image_layout.specs.Layout.{Inside, endOf, layoutOf, laidOut, mostRows}
+use Rattle.image_layout.specs.Layout.{Inside, endOf, layoutOf, laidOut, imageEnd, mostRows}
 use Rattle.image_layout.proofs.Walks.{piece}
 use Rattle.image.specs.Image.{imageFault}
 use Rattle.image_judge.specs.Faults.{tablesIn}
 use Rattle.image.specs.Store.{room, isSound, held}
-use Rattle.table_update.specs.Exchange.{imageEnd}
-use Rattle.table_update.proofs.Stores.{limits, store-sound}
+use Rattle.table_update.proofs.Stores.{sound-few, store-sound}
 use Rattle.image_transfer.specs.declared.Loaded.the-variants.{Done, Faulty}
 use Rattle.image_transfer.specs.Transfer.{imageOf, overlaid, allRows, Reads, Writes}
 use Rattle.image_transfer.proofs.Accepted.{image-accepted, image-room}
@@ -52,9 +51,8 @@ pub record AllIn (w : List ℕ) (x : Extent) : Type 0 where
 all-in : (w : List ℕ) → isSound w ≡ true → AllIn w (allRows (layoutOf w))
 unfolding layoutOf laidOut
 all-in w h =
-    let l = limits w h in
     let e = store-sound w h .end-in in
-    record { inside = record { lengths-in = omega arith; rows-in = e }; few = omega arith; end-is = refl }
+    record { inside = record { lengths-in = omega arith; rows-in = e }; few = sound-few w h; end-is = refl }
 
 module _ (w : List ℕ) (h : isSound w ≡ true) {l : Layout} (q : l ≡ layoutOf w) where
   pub few-laid : l .contexts .count + l .mappings .count + l .accesses .count + l .views .count ≤ mostRows

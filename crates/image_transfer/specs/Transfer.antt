@@ -4,9 +4,9 @@ use mathlib.Core.Path.{_≡_}
 use mathlib.Core.Bool.{cond}
 use mathlib.Core.List.{List, [], _∷_, _++_, map}
 use mathlib.Core.Option.{Option, none, some}
-use Prim.Native.Nat.{ℕ, _+_}
+use Prim.Native.Nat.{ℕ, _+_, _≤_}
 use lib.Dec.{leb}
-use lib.ListN.{length, drop}
+use lib.ListN.{length, take, drop}
 use Rattle.answers.specs.Numbers.{faultNumber}
 use Rattle.answers.specs.declared.Fault.{Fault}
 use Rattle.answers.specs.declared.Fault.the-variants.{NotSound, TooShort}
@@ -18,7 +18,7 @@ use Rattle.rows.specs.Rows.{ContextRow, MappingRow, AccessRow, ViewRow, rowFiel
 use Rattle.rows.specs.Tables.{Tables}
 use Rattle.image_layout.specs.declared.Extent.{Extent}
 use Rattle.image_layout.specs.declared.Layout.{Layout}
-use Rattle.image_layout.specs.Layout.{extent, header}
+use Rattle.image_layout.specs.Layout.{extent, endOf, Inside, header}
 use Rattle.image.specs.Image.{imageFault}
 use Rattle.image_judge.specs.Faults.{tablesIn}
 use Rattle.image.specs.Store.{held}
@@ -50,11 +50,18 @@ rowsOf t =
     ∷ map viewBytes (t .vacmViewTreeFamilyTable)
     ∷ []
 
--- the four counts, the array of row lengths, the parallel array of rows
-unfoldable pub imageOf : Tables → List ℕ
-imageOf t =
+-- the four counts, what stands behind them, the array of row lengths, the parallel array of rows
+abbrev pub imageWith : List ℕ → Tables → List ℕ
+imageWith mid t =
     let ts : List (List (List ℕ)) = rowsOf t in
-    pairsOf (map length ts) ++ (pairsOf (map length (concatenated ts)) ++ concatenated (concatenated ts))
+    pairsOf (map length ts) ++ (mid ++ (pairsOf (map length (concatenated ts)) ++ concatenated (concatenated ts)))
+
+-- nothing stands behind the counts
+abbrev pub middleOf : Tables → List ℕ
+middleOf t = []
+
+unfoldable pub imageOf : Tables → List ℕ
+imageOf t = imageWith (middleOf t) t
 
 -- new bytes at the front of what was found, and the rest as it was
 abbrev pub overlaid : List ℕ → List ℕ → List ℕ
@@ -98,6 +105,12 @@ bufferOf (some t) found = cond (leb (length (imageOf t)) (length found)) (overla
 pub record Writes (tables : Option Tables) (found after : List ℕ) (r : Written) : Type 0 where
   pub answer-is : r ≡ writtenOf tables (length found)
   pub buffer-is : after ≡ bufferOf tables found
+
+-- the rows of x can be written: they lie within the store, the buffer has room for them, and all ahead of them is written
+pub record Writable (store : List ℕ) (x : Extent) (out : List ℕ) : Type 0 where
+  pub inside : Inside store x
+  pub end-in : endOf store x ≤ length out
+  pub ahead-is : take (x .rows) out ≡ take (x .rows) store
 
 -- all rows of a layout as one extent
 abbrev pub allRows : Layout → Extent

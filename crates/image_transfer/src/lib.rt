@@ -9,9 +9,9 @@ use image_layout::Layout;
 ghost use mathlib.Core.Path.{_≡_};
 ghost use Prim.Native.Nat.{_+_, _≤_};
 ghost use lib.ListN.{length, take};
-ghost use Rattle.image_layout.specs.Layout.{Inside, endOf, mostRows};
+ghost use Rattle.image_layout.specs.Layout.{endOf, mostRows};
 ghost use Rattle.image.specs.Store.{held};
-ghost use Rattle.image_transfer.specs.Transfer.{overlaid, allRows, loadedNumber, Reads, Writes};
+ghost use Rattle.image_transfer.specs.Transfer.{overlaid, Writable, allRows, loadedNumber, Reads, Writes};
 
 // The answer of reading an image into a store.
 pub enum Loaded {
@@ -54,7 +54,7 @@ fn write_row(part: &mut [u8], row: &[u8])
 
 // The rows of an extent, each into the part of the buffer where it stands in the image.
 fn write_rows(store: &[u8], x: Extent, out: &mut [u8])
-    requires { ⌜ Inside (now store) x × (endOf (now store) x ≤ length (now out)) × (take (x .rows) (now out) ≡ take (x .rows) (now store)) ⌝ }
+    requires { ⌜ Writable (now store) x (now out) ⌝ }
     ensures { λ _. ⌜ now (out .exit) ≡ overlaid (take (endOf (now (store .entry)) x) (now (store .entry))) (now (out .entry)) ⌝ }
 {
     let n = x.count;
@@ -82,7 +82,7 @@ fn all_rows(l: Layout) -> Extent
     }
 }
 
-// The image of a store's tables written into a buffer: the counts and the array of lengths first, then row by row.
+// The image of a store's tables written into a buffer: the header and the array of lengths first, then row by row.
 pub fn write_image(store: &[u8], out: &mut [u8]) -> Written
     ensures { λ r. ⌜ Writes (held (now (store .entry))) (now (out .entry)) (now (out .exit)) r ⌝ }
 {

@@ -14,17 +14,17 @@ use lib.Seq.{drop-cons, drop-drop, length-take-le, set-append-left}
 use borrow.Author.Tests.{lt-ltb, eq-eqb, ne-eqb, eqb-true}
 use Rattle.lists.proofs.Bools.{split, test-ext}
 use Rattle.rows.specs.declared.Table.{Table}
-use Rattle.rows.specs.declared.Table.the-variants.{Context, Mapping, Access, View}
 use Rattle.big_endian.specs.BigEndian.{Octets}
 use Rattle.image_layout.specs.declared.Extent.{Extent}
-use Rattle.image_layout.specs.Layout.{total, lengthsIn, rowsIn, endOf, layoutOf}
+use Rattle.image_layout.specs.Layout.{total, lengthsIn, rowsIn, endOf, countsSize, header, middle, rowCount, imageEnd, mostRows}
 use Rattle.splice.specs.Splice.{splicedTwo}
 use Rattle.table_update.specs.declared.Place.{Place}
-use Rattle.table_update.specs.Exchange.{extentOf, position, countAt, tableRows, oneIf, PlaceIn, ImageIn, rowCount, imageEnd, exchanged, oneRow, Exchanges}
+use Rattle.table_update.specs.Exchange.{position, countAt, tableRows, oneIf, TablePlace, exchanged, oneRow, Exchanges}
 use Rattle.table_update.proofs.Written.{concatenated, concatenated-append, heads, length-heads, set-heads, total-lengths}
 use Rattle.table_update.proofs.Splits.{length-rows, lengths-rows, tables, table-at, Split, split-table, table-inside, position-below}
 use Rattle.table_update.proofs.Swaps.{laid, Swap, swapped}
-use Rattle.table_update.proofs.Images.{image, image-written, tables-count, tables-end, end-within, tables-read}
+use Rattle.table_update.proofs.Images.{image, length-middle, length-front, image-written, tables-count, tables-end, end-within, middle-read}
+use Rattle.table_update.proofs.Images.{tables-read}
 
 -- ---- lists
 
@@ -75,27 +75,24 @@ heads-one (a ∷ row) = rw (lt-ltb 0 (suc (length row)) (omega arith))
 
 -- ---- the place
 
-count-place : (t : Table) → countAt t ≡ 2 * position t + 1
-count-place Context = refl
-count-place Mapping = refl
-count-place Access = refl
-count-place View = refl
+pub count-below : (t : Table) → countAt t < countsSize
+count-below t = omega (arith, position-below t)
 
-pub count-below : (t : Table) → countAt t < 8
-count-below t = omega (arith, count-place t, position-below t)
-
-pub record Asked (t : Table) (w : List ℕ) (x : Extent) (p : Place) (end : ℕ) : Type 0 where
-  pub bytes : Octets w
-  pub image-in : ImageIn w end
-  pub extent-is : x ≡ extentOf t (layoutOf w)
-  pub place-in : PlaceIn w x p
-
-module _ {t : Table} {w : List ℕ} {x : Extent} {p : Place} {end : ℕ} (q : Asked t w x p end) where
+module _ {t : Table} {w : List ℕ} {x : Extent} {p : Place} {end : ℕ} (b : Octets w) (q : TablePlace t w x p end) where
   within : imageEnd w ≤ length w
   within = omega (arith, q .image-in .end-is, q .image-in .end-in)
 
-  s : Split w 8 (8 + 2 * rowCount w) (tables w) x (position t)
-  s = subst (λ y. Split w 8 (8 + 2 * rowCount w) (tables w) y (position t)) (sym (q .extent-is)) (split-table t w within)
+  size : countsSize + length (middle w) ≡ header
+  size = length-middle w (omega (arith, within))
+
+  s : Split w header (header + 2 * rowCount w) (tables w) x (position t)
+  s = subst (λ y. Split w header (header + 2 * rowCount w) (tables w) y (position t)) (sym (q .extent-is)) (split-table t w within)
+
+  abbrev front : List ℕ
+  front = heads (tables w) ++ middle w
+
+  front-length : length front ≡ header
+  front-length = length-front (tables w) (middle w) refl size
 
   abbrev rows : List (List ℕ)
   rows = rowsIn w x
@@ -120,8 +117,8 @@ module _ {t : Table} {w : List ℕ} {x : Extent} {p : Place} {end : ℕ} (q : As
       ap concatenated (s .tables-are) ∙ concatenated-append (s .ahead) (rows ∷ s .behind)
       ∙ ap (λ l. concatenated (s .ahead) ++ (l ++ concatenated (s .behind))) (parts (p .row) (oneIf (p .present)) rows) ∙ simp append-assoc
 
-  bytes-are : w ≡ laid (heads (tables w)) (left ++ (out ++ right)) (drop (imageEnd w) w)
-  bytes-are = image-written w (q .bytes) within ∙ ap (λ l. laid (heads (tables w)) l (drop (imageEnd w) w)) rows-are
+  bytes-are : w ≡ laid front (left ++ (out ++ right)) (drop (imageEnd w) w)
+  bytes-are = image-written w b within ∙ ap (λ l. laid front l (drop (imageEnd w) w)) rows-are
 
   left-length : length left ≡ length (concatenated (s .ahead)) + p .row
   left-length = length-append (concatenated (s .ahead)) (take (p .row) rows) ∙ ap (λ n. length (concatenated (s .ahead)) + n)
@@ -134,7 +131,7 @@ module _ {t : Table} {w : List ℕ} {x : Extent} {p : Place} {end : ℕ} (q : As
   count-is =
       tables-count w ∙ ap length rows-are ∙ length-append left (out ++ right) ∙ omega (arith, length-append out right)
 
-  pub few-rows : x .count ≤ 240
+  pub few-rows : x .count ≤ mostRows
   few-rows = omega (
     arith,
     q .image-in .few,
@@ -171,15 +168,15 @@ module _ {t : Table} {w : List ℕ} {x : Extent} {p : Place} {end : ℕ} (q : As
 
   pub swap : Swap w (p .from) (p .end - p .from) (x .lengths + 2 * p .row) (oneIf (p .present)) end
   swap = record {
-    front = heads (tables w);
+    front = front;
     left = left;
     out = out;
     right = right;
     rest = drop (imageEnd w) w;
     bytes-are = bytes-are;
-    place-is = omega (arith, s .lengths-at, left-length, length-heads (tables w));
+    place-is = omega (arith, s .lengths-at, left-length, front-length);
     had-is = sym out-length;
-    from-is = omega (arith, from-bytes, s .rows-at, left-bytes, count-is, length-heads (tables w));
+    from-is = omega (arith, from-bytes, s .rows-at, left-bytes, count-is, front-length);
     gone-is = omega (arith, gone-bytes);
     end-is = omega (
       arith,
@@ -210,14 +207,19 @@ module _ {t : Table} {w : List ℕ} {x : Extent} {p : Place} {end : ℕ} (q : As
 
     count-set : set (heads (tables w)) (countAt t) c ≡ heads after
     count-set =
-        rw (count-place t) (ap (λ l. set (heads l) (2 * position t + 1) c) (s .tables-are)
+        ap (λ l. set (heads l) (countAt t) c) (s .tables-are)
         ∙ set-heads (s .ahead) (s .behind) rows changed (position t) c (s .place-is) (omega (arith, few-rows, length-rows w x)) changed-length
-        (omega (arith, few-rows)))
+        (omega (arith, few-rows))
 
-    image-set : (tail : List ℕ) → set (laid (heads (tables w)) (left ++ (new ++ right)) tail) (countAt t) c ≡ image after tail
+    front-set : set front (countAt t) c ≡ heads after ++ middle w
+    front-set =
+        set-append-left (heads (tables w)) (middle w) (countAt t) c (omega (arith, count-below t, length-heads (tables w)))
+        ∙ ap (λ f. f ++ middle w) count-set
+
+    image-set : (tail : List ℕ) → set (laid front (left ++ (new ++ right)) tail) (countAt t) c ≡ image after (middle w) tail
     image-set tail =
-        set-append-left (heads (tables w)) _ (countAt t) c (omega (arith, count-below t, length-heads (tables w)))
-        ∙ ap₂ (λ f l. f ++ (heads l ++ (concatenated l ++ tail))) count-set rows-after
+        set-append-left front _ (countAt t) c (omega (arith, count-below t, front-length))
+        ∙ ap₂ (λ f l. f ++ (heads l ++ (concatenated l ++ tail))) front-set rows-after
 
     -- the bytes afterwards
     module _ (y : List ℕ) (l : length y ≡ length w)
@@ -226,7 +228,7 @@ module _ {t : Table} {w : List ℕ} {x : Extent} {p : Place} {end : ℕ} (q : As
       abbrev tail : List ℕ
       tail = swapped swap new .0
 
-      y-image : y ≡ image after tail
+      y-image : y ≡ image after (middle w) tail
       unfolding swap
       y-image = f ∙ ap (λ v. set v (countAt t) c) (swapped swap new .1) ∙ image-set tail
 
@@ -235,7 +237,7 @@ module _ {t : Table} {w : List ℕ} {x : Extent} {p : Place} {end : ℕ} (q : As
 
       table-after : (u : Table) → tableRows u y ≡ cond (eqb (position t) (position u)) changed (tableRows u w)
       table-after u =
-          table-at u y ∙ ap (λ ts. getD ts (position u) []) (tables-read y after tail four y-image)
+          table-at u y ∙ ap (λ ts. getD ts (position u) []) (tables-read y after (middle w) tail four size y-image)
           ∙ getD-other (s .ahead) (s .behind) rows changed [] (position u)
           ∙ ap₂ (λ n r. cond (eqb n (position u)) changed r) (s .place-is) (ap (λ ts. getD ts (position u) []) (sym (s .tables-are)) ∙ sym (table-at u w))
 
@@ -248,8 +250,9 @@ module _ {t : Table} {w : List ℕ} {x : Extent} {p : Place} {end : ℕ} (q : As
             ∙ split (eqb (position t) (position u))
             (λ n. rw n (ap (exchanged (p .row) (oneIf (p .present)) new) (same-table u (eqb-true (position t) (position u) n))))
             (λ n. rw n);
+        middle-is = middle-read y after (middle w) tail four size y-image;
         size-is = l;
-        end-in = end-within y after tail four y-image;
+        end-in = end-within y after (middle w) tail four size y-image;
       }
 
   -- as the code does it, with one row or none

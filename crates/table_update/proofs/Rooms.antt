@@ -6,7 +6,7 @@ use mathlib.Core.Path.{_≡_, refl, ap}
 use mathlib.Core.Bool.{true, false}
 use mathlib.Core.List.{List, [], _∷_}
 use mathlib.Core.Option.{none}
-use Prim.Native.Nat.{ℕ, _+_, _-_, _*_, _≤_, _<_}
+use Prim.Native.Nat.{ℕ, _+_, _*_, _≤_, _<_}
 use native.Mathlib.Nat.{mul-le-mul-right}
 use native.Mathlib.Omega.{arith}
 use lib.ListN.{length, take, drop, length-append}
@@ -14,20 +14,20 @@ use Rattle.rows.specs.declared.Table.{Table}
 use Rattle.rows.specs.declared.Table.the-variants.{Context, Mapping, Access, View}
 use Rattle.rows.specs.Fields.{faults}
 use Rattle.rows.specs.Rows.{rowFields, limit, indexOf}
-use Rattle.rows.proofs.Bounds.{longestRow, row-bounded}
+use Rattle.rows.proofs.Bounds.{longestRow, longest-most, row-bounded}
 use Rattle.big_endian.specs.BigEndian.{Octets}
-use Rattle.image_layout.specs.Layout.{pairs, total, endOf, count, layoutOf, laidOut}
+use Rattle.image_layout.specs.Layout.{pairs, total, endOf, header, count, layoutOf, laidOut, extentOf, imageEnd}
 use Rattle.image_judge.specs.Faults.{tableFault}
 use Rattle.image.specs.Store.{room, isSound}
 use Rattle.image_layout.proofs.Layouts.{total-pairs}
-use Rattle.table_update.specs.Exchange.{extentOf, tableRows, oneIf, rowsBefore, isHeld, imageEnd, ImageIn, Sought, exchanged}
+use Rattle.table_update.specs.Exchange.{tableRows, oneIf, rowsBefore, isHeld, ImageIn, TablePlace, RoomFor, Sought, exchanged}
 use Rattle.table_update.specs.declared.Place.{Place}
 use Rattle.table_update.proofs.Written.{concatenated, concatenated-append}
 use Rattle.table_update.proofs.Images.{tables-end}
-use Rattle.table_update.proofs.Exchanges.{Asked, gone-bytes}
+use Rattle.table_update.proofs.Exchanges.{gone-bytes}
 use Rattle.table_update.proofs.Keys.{KeyOf, key-of-row}
 use Rattle.table_update.proofs.Faults.{Comes, whole, rows-bounded, place-fits, exchanged-length, exchanged-bytes}
-use Rattle.table_update.proofs.Stores.{SoundStore, length-table, limits, store-sound, changed-sound, changed-few, rowKey, one-more}
+use Rattle.table_update.proofs.Stores.{SoundStore, length-table, sound-few, store-sound, changed-sound, changed-few, rowKey, one-more}
 
 -- ---- the room
 
@@ -42,7 +42,7 @@ bytesOf w t = length (concatenated (tableRows t w))
 abbrev sum : (Table → ℕ) → ℕ
 sum f = f Context + f Mapping + f Access + f View
 
-end-sum : (w : List ℕ) → imageEnd w ≤ length w → imageEnd w ≡ 8 + 2 * sum (λ t. length (tableRows t w)) + sum (bytesOf w)
+end-sum : (w : List ℕ) → imageEnd w ≤ length w → imageEnd w ≡ header + 2 * sum (λ t. length (tableRows t w)) + sum (bytesOf w)
 end-sum w h =
     omega (
       arith,
@@ -54,10 +54,14 @@ end-sum w h =
       length-table View w,
     )
 
+-- full tables of the longest rows fill the room
+pub full-room : header + sum (λ t. limit t * (2 + longestRow t)) ≡ room
+full-room = refl
+
 -- n rows of b bytes in each table; in table t, k more rows of `add` bytes for m rows of `gone` bytes
 module _ (n b : Table → ℕ) (p : (t : Table) → n t ≤ limit t) (q : (t : Table) → b t ≤ limit t * longestRow t) where
   room-sum : (t : Table) (i j k m add gone : ℕ) → i ≤ limit t → j ≤ limit t * longestRow t → i + m ≡ n t + k → j + gone ≡ b t + add
-      → 8 + 2 * sum n + sum b + add + 2 * k ≤ room + gone + 2 * m
+      → header + 2 * sum n + sum b + add + 2 * k ≤ room + gone + 2 * m
   room-sum Context i j k m add gone x y e f = omega (arith, p Mapping, p Access, p View, q Mapping, q Access, q View)
   room-sum Mapping i j k m add gone x y e f = omega (arith, p Context, p Access, p View, q Context, q Access, q View)
   room-sum Access i j k m add gone x y e f = omega (arith, p Context, p Mapping, p View, q Context, q Mapping, q View)
@@ -106,36 +110,30 @@ end-views w =
     let e : c + m + a + v ≡ c + (m + (a + v)) = omega arith in
     omega (
       arith,
-      ap (λ n. total (pairs n (drop 8 w))) e,
-      total-pairs w 8 c (m + (a + v)),
-      total-pairs w (8 + 2 * c) m (a + v),
-      total-pairs w (8 + 2 * c + 2 * m) a v,
+      ap (λ n. total (pairs n (drop header w))) e,
+      total-pairs w header c (m + (a + v)),
+      total-pairs w (header + 2 * c) m (a + v),
+      total-pairs w (header + 2 * c + 2 * m) a v,
     )
 
 pub image-in : (w : List ℕ) → isSound w ≡ true → ImageIn w (endOf w (layoutOf w .views))
 image-in w h =
-    let l = limits w h in
-    record { few = omega arith; end-is = end-views w; end-in = omega (arith, end-views w, store-sound w h .end-in) }
+    record { few = sound-few w h; end-is = end-views w; end-in = omega (arith, end-views w, store-sound w h .end-in) }
 
 -- ---- a whole row put
 
-longest-most : (t : Table) → longestRow t ≤ 310
-longest-most Context = omega arith
-longest-most Mapping = omega arith
-longest-most Access = omega arith
-longest-most View = omega arith
-
 module _ (t : Table) (w row : List ℕ) (h : isSound w ≡ true) (b : Octets w) (d : Octets row) (f : faults (rowFields t) row ≡ none)
     (n : isHeld (rowKey t row) (tableRows t w) ≡ false → length (tableRows t w) < limit t) where
-  pub room-for : {p : Place} {end : ℕ} → ImageIn w end → Sought w (extentOf t (layoutOf w)) (rowKey t row) p
-      → (length row < 65536) × (end + length row + 2 ≤ length w + (p .end - p .from) + 2 * oneIf (p .present))
+  pub room-for : {p : Place} {end : ℕ} → ImageIn w end → Sought w (extentOf t (layoutOf w)) (rowKey t row) p → RoomFor w p end row
   room-for {p} {end} i s =
       let r = room-after t w (rowKey t row) row (row ∷ []) b (store-sound w h) (key-of-row t row d f) (whole f refl) (one-more t w row h b d f n) in
-      let a : Asked t w (extentOf t (layoutOf w)) p end = record { bytes = b; image-in = i; extent-is = refl; place-in = s .place-in } in
-      (omega (arith, row-bounded t row f, longest-most t), omega (arith, rw (← s .row-is, ← s .present-is) at r, gone-bytes a, i .end-is, length-append row []))
+      let a : TablePlace t w (extentOf t (layoutOf w)) p end = record { image-in = i; extent-is = refl; place-in = s .place-in } in
+      record {
+        length-said = omega (arith, row-bounded t row f, longest-most t);
+        row-fits = omega (arith, rw (← s .row-is, ← s .present-is) at r, gone-bytes b a, i .end-is, length-append row []);
+      }
 
 -- ---- a row removed
 
-pub room-removed : {w : List ℕ} (p : Place) {end : ℕ} → ImageIn w end → p .present ≡ true
-    → (0 < 65536) × (end + 0 + 2 ≤ length w + (p .end - p .from) + 2 * oneIf (p .present))
-room-removed p i e = rw e (omega arith, omega (arith, i .end-in))
+pub room-removed : {w : List ℕ} (p : Place) {end : ℕ} → ImageIn w end → p .present ≡ true → RoomFor w p end []
+room-removed p i e = record { length-said = omega arith; row-fits = rw e (omega (arith, i .end-in)) }

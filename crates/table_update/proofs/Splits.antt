@@ -11,10 +11,11 @@ use Rattle.rows.specs.declared.Table.{Table}
 use Rattle.rows.specs.declared.Table.the-variants.{Context, Mapping, Access, View}
 use Rattle.image_layout.specs.declared.Extent.{Extent}
 use Rattle.image_layout.specs.declared.Layout.{Layout}
-use Rattle.image_layout.specs.Layout.{pairs, total, cut, lengthsIn, rowsIn, endOf, Inside, count, laidOut, layoutOf, extent}
+use Rattle.image_layout.specs.Layout.{pairs, total, cut, lengthsIn, rowsIn, endOf, Inside, header, count, laidOut, layoutOf, extentOf, extent}
+use Rattle.image_layout.specs.Layout.{rowCount, imageEnd}
 use Rattle.image_layout.proofs.Walks.{length-pairs}
 use Rattle.image_layout.proofs.Layouts.{pairs-append, total-pairs, laid-within}
-use Rattle.table_update.specs.Exchange.{extentOf, position, tableRows, rowCount, imageEnd}
+use Rattle.table_update.specs.Exchange.{position, tableRows}
 use Rattle.table_update.proofs.Written.{concatenated, concatenated-append, total-lengths, cut-append, length-cut, lengths-cut}
 
 -- ---- the rows of an extent
@@ -114,17 +115,17 @@ tables w = map (rowsIn w) (places (layoutOf w))
 pub total-counts : (w : List ℕ) → total (counts w) ≡ rowCount w
 total-counts w = omega arith
 
-tables-extents : (w : List ℕ) → tables w ≡ map (rowsIn w) (extents (counts w) w 8 (8 + 2 * rowCount w))
+tables-extents : (w : List ℕ) → tables w ≡ map (rowsIn w) (extents (counts w) w header (header + 2 * rowCount w))
 unfolding layoutOf laidOut
 tables-extents w = refl
 
 pub lengths-tables : (w : List ℕ) → map length (tables w) ≡ counts w
-lengths-tables w = ap (map length) (tables-extents w) ∙ lengths-extents (counts w) w 8 (8 + 2 * rowCount w)
+lengths-tables w = ap (map length) (tables-extents w) ∙ lengths-extents (counts w) w header (header + 2 * rowCount w)
 
-pub joined-tables : (w : List ℕ) → concatenated (tables w) ≡ cut (pairs (rowCount w) (drop 8 w)) (drop (8 + 2 * rowCount w) w)
+pub joined-tables : (w : List ℕ) → concatenated (tables w) ≡ cut (pairs (rowCount w) (drop header w)) (drop (header + 2 * rowCount w) w)
 joined-tables w =
-    ap concatenated (tables-extents w) ∙ joined-extents (counts w) w 8 (8 + 2 * rowCount w)
-    ∙ ap (λ n. cut (pairs n (drop 8 w)) (drop (8 + 2 * rowCount w) w)) (total-counts w)
+    ap concatenated (tables-extents w) ∙ joined-extents (counts w) w header (header + 2 * rowCount w)
+    ∙ ap (λ n. cut (pairs n (drop header w)) (drop (header + 2 * rowCount w) w)) (total-counts w)
 
 -- by position
 pub table-at : (t : Table) (w : List ℕ) → tableRows t w ≡ getD (tables w) (position t) []
@@ -145,11 +146,11 @@ position-below Mapping = omega arith
 position-below Access = omega arith
 position-below View = omega arith
 
-pub split-table : (t : Table) (w : List ℕ) → imageEnd w ≤ length w → Split w 8 (8 + 2 * rowCount w) (tables w) (extentOf t (layoutOf w)) (position t)
+pub split-table : (t : Table) (w : List ℕ) → imageEnd w ≤ length w → Split w header (header + 2 * rowCount w) (tables w) (extentOf t (layoutOf w)) (position t)
 unfolding layoutOf laidOut
 split-table t w h =
-    subst (λ x. Split w 8 (8 + 2 * rowCount w) (tables w) x (position t)) (place-at t (layoutOf w))
-    (split-extents (counts w) w 8 (8 + 2 * rowCount w) (position t) (position-below t) (rw (total-counts w) h))
+    subst (λ x. Split w header (header + 2 * rowCount w) (tables w) x (position t)) (place-at t (layoutOf w))
+    (split-extents (counts w) w header (header + 2 * rowCount w) (position t) (position-below t) (rw (total-counts w) h))
 
 pub table-inside : (t : Table) (w : List ℕ) → imageEnd w ≤ length w → Inside w (extentOf t (layoutOf w))
 unfolding layoutOf

@@ -2,17 +2,17 @@
 -- Soundness as facts by table (`SoundStore`): the table that is exchanged has them by `Faults`, and the others have what they had.
 -- So it is for a whole row put, where it is held or the table has room for one more, and for a row removed. Assumes nothing.
 use mathlib.Core.Path.{_≡_, refl, sym, ap, subst, _∙_}
-use mathlib.Core.Bool.{true, false, _&&_}
+use mathlib.Core.Bool.{true, false}
 use mathlib.Core.List.{List, [], _∷_}
 use mathlib.Core.Option.{none}
 use Prim.Native.Nat.{ℕ, zero, suc, _+_, _≤_, _<_}
 use native.Mathlib.Omega.{arith}
-use lib.Dec.{eqb, leb}
+use lib.Dec.{eqb}
 use lib.ListN.{length, take}
 use lib.Seq.{take-nil}
-use borrow.Author.Tests.{eq-eqb, ne-eqb, eqb-true, le-leb, leb-true}
+use borrow.Author.Tests.{eq-eqb, ne-eqb, eqb-true, le-leb}
 use Rattle.lists.specs.Order.{before}
-use Rattle.lists.proofs.Bools.{clash, split, cond-true, cond-false, and-left, and-right, and-both}
+use Rattle.lists.proofs.Bools.{clash, split, cond-true, cond-false, and-both}
 use Rattle.lists.proofs.Greatest.{Ascends}
 use Rattle.rows.specs.declared.Table.{Table}
 use Rattle.rows.specs.declared.Table.the-variants.{Context, Mapping, Access, View}
@@ -20,15 +20,16 @@ use Rattle.rows.specs.Fields.{faults, span}
 use Rattle.rows.specs.Rows.{keyFields, rowFields, limit, indexOf}
 use Rattle.big_endian.specs.BigEndian.{Octets}
 use Rattle.image_layout.specs.declared.Extent.{Extent}
-use Rattle.image_layout.specs.Layout.{Inside, rowsIn, count, withinLimits, layoutOf, laidOut}
-use Rattle.image_judge.specs.Faults.{tableFault, rowsFault}
+use Rattle.image_layout.specs.Layout.{rowsIn, count, rowCount, imageEnd, withinLimits, mostRows, layoutOf, laidOut, extentOf}
+use Rattle.image_layout.proofs.Limits.{within-limits, limits-within, few}
+use Rattle.image_judge.specs.Faults.{tableFault, rowsFault, SoundLayout}
 use Rattle.image.specs.Store.{room, soundRows, isSound}
 use Rattle.image_judge.proofs.Keys.{stands-nil}
 use Rattle.image_judge.proofs.Sound.{ascends-rows}
-use Rattle.image.proofs.Surveys.{sound-layout}
-use Rattle.table_update.specs.Exchange.{extentOf, position, tableRows, oneIf, rowsBefore, isHeld, imageEnd, Sought, exchanged, oneRow, Exchanges}
+use Rattle.image.proofs.Surveys.{store-tests, sound-layout}
+use Rattle.table_update.specs.Exchange.{position, tableRows, oneIf, rowsBefore, isHeld, Sought, exchanged, oneRow, Exchanges}
 use Rattle.table_update.specs.declared.Place.{Place}
-use Rattle.table_update.proofs.Splits.{length-rows, table-inside}
+use Rattle.table_update.proofs.Splits.{length-rows}
 use Rattle.table_update.proofs.Keys.{KeyOf, Whole, whole-rows, key-of-row, key-of-key}
 use Rattle.table_update.proofs.Faults.{Comes, nothing, whole, index-some, fault-exchanged, place-fits, exchanged-length}
 
@@ -40,12 +41,6 @@ pub record SoundStore (w : List ℕ) : Type 0 where
   pub end-in : imageEnd w ≤ length w
   pub rows-sound : (t : Table) → tableFault t [] (tableRows t w) ≡ none
 
-limit-most : (t : Table) → limit t ≤ 240
-limit-most Context = omega arith
-limit-most Mapping = omega arith
-limit-most Access = omega arith
-limit-most View = omega arith
-
 abbrev pub countOf : Table → List ℕ → ℕ
 countOf t w = count (position t) w
 
@@ -56,18 +51,22 @@ length-table Mapping w = length-rows w (extentOf Mapping (layoutOf w))
 length-table Access w = length-rows w (extentOf Access (layoutOf w))
 length-table View w = length-rows w (extentOf View (layoutOf w))
 
-pub within-limits : (c m a v : ℕ) → c ≤ 16 → m ≤ 64 → a ≤ 64 → v ≤ 96 → withinLimits c m a v ≡ true
-within-limits c m a v p q r s = rw (le-leb c 16 p, le-leb m 64 q, le-leb a 64 r, le-leb v 96 s)
+-- what passed the tests, by table
+pub within-rows : (w : List ℕ) → withinLimits (count 0 w) (count 1 w) (count 2 w) (count 3 w) ≡ true → (t : Table) → length (tableRows t w) ≤ limit t
+within-rows w h t = by-table t (limits-within (count 0 w) (count 1 w) (count 2 w) (count 3 w) h)
+  where
+    by-table : (t : Table) → (count 0 w ≤ limit Context) × (count 1 w ≤ limit Mapping) × (count 2 w ≤ limit Access) × (count 3 w ≤ limit View)
+        → length (tableRows t w) ≤ limit t
+    by-table Context l = omega (arith, length-table Context w, l .0)
+    by-table Mapping l = omega (arith, length-table Mapping w, l .1)
+    by-table Access l = omega (arith, length-table Access w, l .2)
+    by-table View l = omega (arith, length-table View w, l .3)
 
-pub limits-within : (c m a v : ℕ) → withinLimits c m a v ≡ true → (c ≤ 16) × (m ≤ 64) × (a ≤ 64) × (v ≤ 96)
-limits-within c m a v h =
-    let p = and-left (leb c 16 && leb m 64 && leb a 64) (leb v 96) h in
-    let q = and-left (leb c 16 && leb m 64) (leb a 64) p in (
-      leb-true c 16 (and-left _ _ q),
-      leb-true m 64 (and-right (leb c 16) _ q),
-      leb-true a 64 (and-right (leb c 16 && leb m 64) _ p),
-      leb-true v 96 (and-right (leb c 16 && leb m 64 && leb a 64) _ h),
-    )
+pub layout-rows : (w : List ℕ) → SoundLayout w (layoutOf w) → (t : Table) → tableFault t [] (tableRows t w) ≡ none
+layout-rows w l Context = l .contexts-sound .rows-sound
+layout-rows w l Mapping = l .mappings-sound .rows-sound
+layout-rows w l Access = l .accesses-sound .rows-sound
+layout-rows w l View = l .views-sound .rows-sound
 
 pub sound-store : (w : List ℕ) → SoundStore w → isSound w ≡ true
 unfolding isSound soundRows layoutOf rowsFault
@@ -78,37 +77,18 @@ sound-store w s =
     (and-both (le-leb (imageEnd w) (length w) (s .end-in)) (rw (s .rows-sound Context, s .rows-sound Mapping, s .rows-sound Access, s .rows-sound View))))
 
 module _ (w : List ℕ) (h : isSound w ≡ true) where
-  tests : (length w ≡ room) × (withinLimits (count 0 w) (count 1 w) (count 2 w) (count 3 w) ≡ true) × (imageEnd w ≤ length w)
-  unfolding isSound soundRows
-  tests =
-      let a = and-right (eqb (length w) room) _ h in
-      let b = and-right (withinLimits (count 0 w) (count 1 w) (count 2 w) (count 3 w)) _ a in
-      (eqb-true (length w) room (and-left _ _ h), and-left _ _ a, leb-true (imageEnd w) (length w) (and-left _ _ b))
-
-  pub limits : (count 0 w ≤ 16) × (count 1 w ≤ 64) × (count 2 w ≤ 64) × (count 3 w ≤ 96)
-  limits = limits-within (count 0 w) (count 1 w) (count 2 w) (count 3 w) (tests .1)
-
-  few-rows : (t : Table) → length (tableRows t w) ≤ limit t
-  few-rows Context = omega (arith, length-table Context w, limits .0)
-  few-rows Mapping = omega (arith, length-table Mapping w, limits .1)
-  few-rows Access = omega (arith, length-table Access w, limits .2)
-  few-rows View = omega (arith, length-table View w, limits .3)
+  pub sound-few : rowCount w ≤ mostRows
+  sound-few = few (count 0 w) (count 1 w) (count 2 w) (count 3 w) (store-tests w h .1)
 
   sound-table : (t : Table) → tableFault t [] (tableRows t w) ≡ none
-  sound-table Context = sound-layout w h .contexts-sound .rows-sound
-  sound-table Mapping = sound-layout w h .mappings-sound .rows-sound
-  sound-table Access = sound-layout w h .accesses-sound .rows-sound
-  sound-table View = sound-layout w h .views-sound .rows-sound
+  sound-table = layout-rows w (sound-layout w h)
 
   pub store-sound : SoundStore w
-  store-sound = record { size-is = tests .0; few = few-rows; end-in = tests .2; rows-sound = sound-table }
+  store-sound =
+      let t = store-tests w h in
+      record { size-is = t .0; few = within-rows w (t .1); end-in = t .2; rows-sound = sound-table }
 
--- each table lies within the store, its rows are few and whole, and their indices ascend
-pub sound-inside : (t : Table) (w : List ℕ) → isSound w ≡ true → Inside w (extentOf t (layoutOf w)) × (extentOf t (layoutOf w) .count ≤ 240)
-sound-inside t w h =
-    let l = limit-most t in
-    (table-inside t w (tests w h .2), omega (arith, few-rows w h t, length-rows w (extentOf t (layoutOf w))))
-
+-- the rows of each table are whole, and their indices ascend
 pub sound-whole : (t : Table) (w : List ℕ) → isSound w ≡ true → Octets w → Whole t (tableRows t w)
 sound-whole t w h b = whole-rows t w (extentOf t (layoutOf w)) b (sound-table w h t)
 

@@ -2,25 +2,17 @@
 use mathlib.Core.Path.{_≡_}
 use mathlib.Core.Bool.{Bool, true, false, cond}
 use mathlib.Core.List.{List, [], _∷_, _++_}
-use Prim.Native.Nat.{ℕ, suc, _+_, _≤_}
+use Prim.Native.Nat.{ℕ, suc, _+_, _-_, _*_, _≤_}
 use lib.Dec.{eqb}
 use lib.ListN.{length, take, drop, getD}
 use Rattle.lists.specs.Order.{same, before}
 use Rattle.rows.specs.declared.Table.{Table}
 use Rattle.rows.specs.declared.Table.the-variants.{Context, Mapping, Access, View}
 use Rattle.image_layout.specs.declared.Extent.{Extent}
-use Rattle.image_layout.specs.declared.Layout.{Layout}
-use Rattle.image_layout.specs.Layout.{total, lengthsIn, rowsIn, endOf, layoutOf, count, imageLength}
+use Rattle.image_layout.specs.Layout.{total, lengthsIn, rowsIn, endOf, middle, layoutOf, extentOf, rowCount, imageEnd, mostRows, mostPair}
 use Rattle.table_update.specs.declared.Place.{Place}
 
--- where a table lies in a layout
-abbrev pub extentOf : Table → Layout → Extent
-extentOf Context l = l .contexts
-extentOf Mapping l = l .mappings
-extentOf Access l = l .accesses
-extentOf View l = l .views
-
--- its place among the tables of an image, and the low octet of its count
+-- a table's place among the tables of an image, and the low octet of its count
 abbrev pub position : Table → ℕ
 position Context = 0
 position Mapping = 1
@@ -28,10 +20,7 @@ position Access = 2
 position View = 3
 
 abbrev pub countAt : Table → ℕ
-countAt Context = 1
-countAt Mapping = 3
-countAt Access = 5
-countAt View = 7
+countAt t = 2 * position t + 1
 
 -- its rows in the image at the front of w
 abbrev pub tableRows : Table → List ℕ → List (List ℕ)
@@ -71,18 +60,22 @@ pub record Sought (w : List ℕ) (x : Extent) (key : List ℕ) (p : Place) : Typ
 
 -- ---- exchanging
 
--- how many rows the image at the front of w has, and where it ends
-abbrev pub rowCount : List ℕ → ℕ
-rowCount w = count 0 w + count 1 w + count 2 w + count 3 w
-
-abbrev pub imageEnd : List ℕ → ℕ
-imageEnd w = imageLength (rowCount w) w
-
 -- few enough rows, all of them within w, and the end
 pub record ImageIn (w : List ℕ) (end : ℕ) : Type 0 where
-  pub few : rowCount w ≤ 240
+  pub few : rowCount w ≤ mostRows
   pub end-is : end ≡ imageEnd w
   pub end-in : end ≤ length w
+
+-- a place in table t of an image that ends at `end`
+pub record TablePlace (t : Table) (w : List ℕ) (x : Extent) (p : Place) (end : ℕ) : Type 0 where
+  pub image-in : ImageIn w end
+  pub extent-is : x ≡ extentOf t (layoutOf w)
+  pub place-in : PlaceIn w x p
+
+-- room for a row there: two bytes say its length, and with it in the place of the row held, if any, the image ends within w
+pub record RoomFor (w : List ℕ) (p : Place) (end : ℕ) (row : List ℕ) : Type 0 where
+  pub length-said : length row ≤ mostPair
+  pub row-fits : end + length row + 2 ≤ length w + (p .end - p .from) + 2 * oneIf (p .present)
 
 -- the `gone` elements from place i on give way to others
 abbrev pub exchanged : {A : Type 0} → ℕ → ℕ → List A → List A → List A
@@ -97,8 +90,9 @@ oneRow (x ∷ row) = (x ∷ row) ∷ []
 abbrev pub exchangedIn : Table → Table → ℕ → ℕ → List (List ℕ) → List (List ℕ) → List (List ℕ)
 exchangedIn t u i gone new rs = cond (eqb (position t) (position u)) (exchanged i gone new rs) rs
 
--- and the image still lies within bytes that are as many as before
+-- what stands behind the counts stays, and the image still lies within bytes that are as many as before
 pub record Exchanges (t : Table) (i gone : ℕ) (new : List (List ℕ)) (found after : List ℕ) : Type 0 where
   pub rows-are : (u : Table) → tableRows u after ≡ exchangedIn t u i gone new (tableRows u found)
+  pub middle-is : middle after ≡ middle found
   pub size-is : length after ≡ length found
   pub end-in : imageEnd after ≤ length after

@@ -4,11 +4,9 @@ use image_layout::Layout;
 use octets::Order;
 use rows::Table;
 ghost use mathlib.Core.Path.{_≡_};
-ghost use Prim.Native.Nat.{_+_, _-_, _*_, _≤_, _<_};
-ghost use lib.ListN.{length};
 ghost use Rattle.octets.specs.Order.{order};
-ghost use Rattle.image_layout.specs.Layout.{Inside, layoutOf};
-ghost use Rattle.table_update.specs.Exchange.{front, Sought, PlaceIn, ImageIn, Exchanges, extentOf, oneRow, oneIf, countAt};
+ghost use Rattle.image_layout.specs.Layout.{Inside, extentOf};
+ghost use Rattle.table_update.specs.Exchange.{front, Sought, TablePlace, RoomFor, Exchanges, oneRow, oneIf, position};
 
 // The place of a key in a table: which row it is or would be, where that row's bytes lie, and whether it is held.
 pub struct Place {
@@ -85,15 +83,15 @@ pub fn seek(w: &[u8], x: Extent, key: &[u8]) -> Place
     }
 }
 
-// A count in one octet: document 01's limits are below 256.
-fn count_at(t: Table) -> usize
-    ensures { λ r. ⌜ r ≡ countAt t ⌝ }
+// A table's place among the tables of an image.
+fn position_of(t: Table) -> usize
+    ensures { λ r. ⌜ r ≡ position t ⌝ }
 {
     match t {
-        Table::Context => 1,
-        Table::Mapping => 3,
-        Table::Access => 5,
-        Table::View => 7,
+        Table::Context => 0,
+        Table::Mapping => 1,
+        Table::Access => 2,
+        Table::View => 3,
     }
 }
 
@@ -105,8 +103,8 @@ fn one_if(b: bool) -> usize
 
 // The row at the place gives way to `row`: put in where none is held, replaced, or, where `row` has no bytes, taken out. `end` is the image's.
 pub fn exchange(w: &mut [u8], t: Table, x: Extent, p: Place, end: usize, row: &[u8])
-    requires { ⌜ ImageIn (now w) end × (x ≡ extentOf t (layoutOf (now w))) × PlaceIn (now w) x p ⌝ }
-    requires { ⌜ (length (now row) < 65536) × (end + length (now row) + 2 ≤ length (now w) + (p .end - p .from) + 2 * oneIf (p .present)) ⌝ }
+    requires place { ⌜ TablePlace t (now w) x p end ⌝ }
+    requires room { ⌜ RoomFor (now w) p end (now row) ⌝ }
     ensures { λ _. ⌜ Exchanges t (p .row) (oneIf (p .present)) (oneRow (now (row .entry))) (now (w .entry)) (now (w .exit)) ⌝ }
 {
     let from = p.from;
@@ -118,6 +116,7 @@ pub fn exchange(w: &mut [u8], t: Table, x: Extent, p: Place, end: usize, row: &[
     let head = [(n / 256) as u8, (n % 256) as u8];
     let used = 2 * has;
     splice::splice_two(w, place, 2 * had, &head[0..used], from, gone, end, row);
-    let at = count_at(t);
+    // A count's low octet: document 01's limits are below 256.
+    let at = 2 * position_of(t) + 1;
     w[at] = (x.count + has - had) as u8;
 }

@@ -9,8 +9,8 @@ use borrow.Author.Needs.{needs}
 use Rattle.answers.specs.declared.Fault.{Fault}
 use Rattle.rows.specs.Rows.{limit}
 use Rattle.big_endian.specs.BigEndian.{Octets}
-use Rattle.image_layout.specs.Layout.{layoutOf}
-use Rattle.table_update.specs.Exchange.{extentOf, Sought}
+use Rattle.image_layout.specs.Layout.{layoutOf, extentOf}
+use Rattle.table_update.specs.Exchange.{Sought}
 use Rattle.table_update.proofs.Stores.{rowKey}
 use Rattle.edit_rules.specs.declared.Edited.the-variants.{Done}
 use Rattle.edit_rules.specs.Storage.{storageIn, storageAt, placeFault, placed, fullAt}

@@ -55,12 +55,13 @@ write-rows-requires c κs =
     let k = c .before .before .before in
     let t = k .before .before .before in
     let a = all (t .before .before) in
-    let s = t .before .before .before .before .before .before in (
-      a .inside,
-      omega (arith, t .if1 .left, t .before .end-of .ensures, k .copy-in .kept .0),
-      take-copied (start s .args .store .now) (start s .args .out .now) (t .before .before .all-rows .result .rows)
-          (omega (arith, a .inside .rows-in)) (k .copy-in .ensures),
-    )
+    let s = t .before .before .before .before .before .before in
+    record {
+      inside = a .inside;
+      end-in = omega (arith, t .if1 .left, t .before .end-of .ensures, k .copy-in .kept .0);
+      ahead-is = take-copied (start s .args .store .now) (start s .args .out .now) (t .before .before .all-rows .result .rows)
+          (omega (arith, a .inside .rows-in)) (k .copy-in .ensures);
+    }
 
 returns-3 : tie.Need-returns-3
 returns-3 c =

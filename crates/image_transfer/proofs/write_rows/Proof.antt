@@ -32,16 +32,17 @@ ends : (c : tie.After-pair-at Inv-loop μ-loop) → let l = c .before .before in
     (l .loop .o + c .pair-at .result ≤ length (start l .args .store .now)) × (l .loop .o + c .pair-at .result ≤ length (start l .args .out .now))
 ends c =
     let s = start (c .before .before) in
-    (omega (arith, next c .row-place, s .pre .0 .rows-in), omega (arith, next c .row-place, s .pre .1))
+    (omega (arith, next c .row-place, s .pre .inside .rows-in), omega (arith, next c .row-place, s .pre .end-in))
 
 loop-holds : tie.Need-loop-holds Inv-loop μ-loop
 loop-holds c =
     let s = c .before .before in
     let a = s .args in
-    (walk-start (a .store .now) (a .x), overlaid-same (a .x .rows) (a .store .now) (a .out .now) (omega (arith, s .pre .0 .rows-in)) (s .pre .2), refl)
+    let o = overlaid-same (a .x .rows) (a .store .now) (a .out .now) (omega (arith, s .pre .inside .rows-in)) (s .pre .ahead-is) in
+    (walk-start (a .store .now) (a .x), o, refl)
 
 pair-at-requires : tie.Need-pair-at-requires Inv-loop μ-loop
-pair-at-requires c κs = walk-length (c .before .loop .inv .0) (start (c .before) .pre .0) (c .loop-test .taken)
+pair-at-requires c κs = walk-length (c .before .loop .inv .0) (start (c .before) .pre .inside) (c .loop-test .taken)
 
 add-e : tie.Need-add-e Inv-loop μ-loop
 add-e c = let e = ends c in search needs
@@ -63,7 +64,7 @@ write-row-requires c κs =
 add-g : tie.Need-add-g Inv-loop μ-loop
 add-g c =
     let i = c .before .before .before .before .before .before in
-    let h = walk-length (i .before .loop .inv .0) (start (i .before) .pre .0) (i .loop-test .taken) in
+    let h = walk-length (i .before .loop .inv .0) (start (i .before) .pre .inside) (i .loop-test .taken) in
     search needs
 
 loop-again : tie.Need-loop-again Inv-loop μ-loop

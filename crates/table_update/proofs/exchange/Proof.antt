@@ -1,40 +1,45 @@
 -- `table_update::exchange` meets its contract. Where the place and the image's end are as required, the bytes split at the place (`swap`), so
 -- that each part that the splice moves or fills lies within w; and what it and the count make of w is the image of the tables with the row
 -- exchanged (`exchanges`). Assumes nothing.
+use mathlib.Core.Path.{ap}
 use mathlib.Core.List.{[], _∷_}
-use Prim.Native.Nat.{_+_, _-_, _*_, _/_, _%_, _≤_}
+use Prim.Native.Nat.{_+_, _-_, _*_, _/_, _%_, _≤_, _<_}
 use native.Mathlib.Omega.{arith}
 use lib.Dec.{ltb}
 use lib.ListN.{length, length-take}
 use borrow.Author.Needs.{needs}
-use Rattle.table_update.specs.Exchange.{oneIf}
+use Rattle.big_endian.specs.BigEndian.{Octets}
+use Rattle.image_layout.specs.Layout.{countsSize, mostRows}
+use Rattle.table_update.specs.Exchange.{oneIf, TablePlace}
 use Rattle.table_update.proofs.Swaps.{Swap}
-use Rattle.table_update.proofs.Exchanges.{Asked, swap, few-rows, exchanges-row, one-if-most, count-below}
+use Rattle.table_update.proofs.Exchanges.{swap, few-rows, exchanges-row, one-if-most, count-below}
 use Rattle.table_update.proofs.exchange.Statement.{statement}
 use Rattle.table_update.proofs.exchange.Tie as tie
 
--- what is required
-asked : (c : tie.After-struct-known) → let s = c .before .before .before .args in Asked (s .t) (s .w .now) (s .x) (s .p) (s .end)
-asked c =
-    let r = c .before .before .before .pre .0 in
-    record { bytes = λ i. omega (arith, c .before .before .slice-known .given i); image-in = r .0; extent-is = r .1; place-in = r .2 }
+-- bytes are below 256
+bytes : (c : tie.After-struct-known) → Octets (c .before .before .before .args .w .now)
+bytes c i = omega (arith, c .before .before .slice-known .given i)
+
+-- the place that is required
+place : (c : tie.After-struct-known) → let s = c .before .before .before .args in TablePlace (s .t) (s .w .now) (s .x) (s .p) (s .end)
+place c = c .before .before .before .pre .0
 
 there : (c : tie.After-struct-known) → let s = c .before .before .before .args in
     Swap (s .w .now) (s .p .from) (s .p .end - s .p .from) (s .x .lengths + 2 * s .p .row) (oneIf (s .p .present)) (s .end)
-there c = swap (asked c)
+there c = swap (bytes c) (place c)
 
 -- the same place, from later ones
 abbrev at2 : tie.After-one-if2 → tie.After-struct-known
 at2 c = c .before .before .before .before
 
-abbrev at3 : tie.After-struct-known4 → tie.After-splice-two
-at3 c = c .before .before .before .before
+abbrev at3 : tie.After-position-of → tie.After-splice-two
+at3 c = c .before .before .before
 
 abbrev at4 : tie.After-splice-two → tie.After-one-if2
 at4 c = c .before .before .before .before
 
-few : (c : tie.After-one-if2) → at2 c .before .before .before .args .x .count ≤ 240
-few c = few-rows (asked (at2 c))
+few : (c : tie.After-one-if2) → at2 c .before .before .before .args .x .count ≤ mostRows
+few c = few-rows (bytes (at2 c)) (place (at2 c))
 
 -- how many rows go out and come in
 most : (c : tie.After-one-if2) → (c .before .one-if .result ≤ 1) × (c .one-if2 .result ≤ 1)
@@ -62,33 +67,43 @@ splice-two-requires c κs =
     let l = c .before .before .before in
     let h = there (at2 l) in
     let a = at2 l .before .before .before .args in
-    let r = at2 l .before .before .before .pre .1 .1 in
+    let r = at2 l .before .before .before .pre .1 .row-fits in
     let d = l .before .one-if .ensures in
     let n = length-take (2 * l .one-if2 .result - 0) (length (a .row .now) / 256 ∷ length (a .row .now) % 256 ∷ []) in
     (omega arith, omega arith, omega arith, omega (arith, most l))
 
+-- the count's octet is one of the counts'
+low : (c : tie.After-position-of) → 2 * c .position-of .result + 1 < countsSize
+low c = omega (arith, c .position-of .ensures, count-below (at2 (at4 (at3 c)) .before .before .before .args .t))
+
+mul-at : tie.Need-mul-at
+mul-at c = omega (arith, low c)
+
+add-at : tie.Need-add-at
+add-at c = omega (arith, low c)
+
 add-w : tie.Need-add-w
-add-w c = omega (arith, few (at4 (at3 c)), most (at4 (at3 c)))
+add-w c = let l = at4 (at3 (c .before)) in omega (arith, few l, most l)
 
 cast-w-2 : tie.Need-cast-w-2
-cast-w-2 c = omega (arith, few (at4 (at3 c)), most (at4 (at3 c)))
+cast-w-2 c = let l = at4 (at3 (c .before)) in omega (arith, few l, most l)
 
 slice-write-w : tie.Need-slice-write-w
 slice-write-w c =
-    let start = at2 (at4 (at3 c)) .before .before .before in
-    let i = start .pre .0 .0 in
-    omega (arith, c .before .count-at .ensures, count-below (start .args .t), at3 c .splice-two .kept .0, i .end-is, i .end-in)
+    let s = at3 (c .before) in
+    let i = place (at2 (at4 s)) .image-in in
+    omega (arith, low (c .before), s .splice-two .kept .0, i .end-is, i .end-in)
 
 returns : tie.Need-returns
 returns c =
-    let v = at3 c .splice-two in
-    let l = at4 (at3 c) in
-    exchanges-row (asked (at2 l)) (at2 l .before .before .before .args .row .now) (v .ensures)
-    (l .before .one-if .ensures) (l .one-if2 .ensures) (c .before .count-at .ensures) (v .kept .0)
+    let v = at3 (c .before) .splice-two in
+    let l = at4 (at3 (c .before)) in
+    exchanges-row (bytes (at2 l)) (place (at2 l)) (at2 l .before .before .before .args .row .now) (v .ensures)
+    (l .before .one-if .ensures) (l .one-if2 .ensures) (ap (λ n. 2 * n + 1) (c .before .position-of .ensures)) (v .kept .0)
 
 pub exchange-spec : {M : Type 1} → statement M
 exchange-spec =
     tie.close
     (tie.spec (λ c. search needs) mul-place add-place (λ c κs. search needs) (λ c κs. search needs) (λ c. search needs)
     (λ c. search needs) mul-used mul-splice-two (λ c. search needs) (λ c. search needs) part-splice-two-end splice-two-requires
-    (λ c κs. search needs) add-w (λ c. search needs) cast-w-2 slice-write-w (λ c. search needs) returns)
+    (λ c κs. search needs) mul-at add-at add-w (λ c. search needs) cast-w-2 slice-write-w (λ c. search needs) returns)
