@@ -4,6 +4,7 @@ use mathlib.Core.List.{List}
 use Prim.Native.Nat.{ℕ}
 use Rattle.answers.specs.declared.Answer.{Answer}
 use Rattle.answers.specs.Numbers.{answerNumber}
+use Rattle.big_endian.specs.BigEndian.{Octets}
 use Rattle.image.specs.Store.{held}
 use Rattle.decision_steps.specs.Request.{Request}
 use Rattle.decision_steps.specs.Decision.{answer}
@@ -16,6 +17,12 @@ pub data Call : Type 0 where
   ask : Request → Call
   owner : Edit → Call
   by : Caller → Edit → Call
+
+-- an edit is handed bytes, as a lent slice holds them
+abbrev pub HandsOctets : Call → Type 0
+HandsOctets (ask q) = Unit {0}
+HandsOctets (owner e) = Octets (e .bytes)
+HandsOctets (by c e) = Octets (e .bytes)
 
 -- all that a call hands back but the store
 pub data Reply : Type 0 where

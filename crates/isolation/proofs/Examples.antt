@@ -5,9 +5,9 @@ use mathlib.Core.Path.{_≡_, refl, sym, ap, _∙_}
 use mathlib.Core.Bool.{Bool, true, false, _&&_}
 use mathlib.Core.List.{List, [], _∷_, _++_, map}
 use Prim.Native.Nat.{ℕ, zero, suc}
-use lib.Dec.{eqb}
+use lib.Dec.{eqb, ltb}
 use native.Mathlib.Omega.{arith}
-use borrow.Author.Tests.{eq-eqb, le-leb}
+use borrow.Author.Tests.{eq-eqb, le-leb, ltb-true}
 use lib.ListN.{length, replicate}
 use Rattle.lists.specs.Lists.{every}
 use Rattle.lists.proofs.Bools.{and-left, and-right}
@@ -16,6 +16,7 @@ use Rattle.rows.specs.declared.Table.the-variants.{Context, Mapping, Access, Vi
 use Rattle.rows.specs.Fields.{sequenceFault, integerFault, faults, rowBytes}
 use Rattle.rows.specs.Rows.{keyFields, rowFields}
 use Rattle.rows.specs.Tables.{noRows}
+use Rattle.big_endian.specs.BigEndian.{Octets}
 use Rattle.image_layout.specs.Layout.{header, laidOut, layoutOf}
 use Rattle.image_judge.specs.Faults.{tableFault, rowsFault, tablesAt}
 use Rattle.image.specs.Store.{room, soundRows, isSound, held}
@@ -25,10 +26,12 @@ use Rattle.decision_steps.specs.Decision.{chosenView, decision}
 use Rattle.rows.specs.declared.Operation.the-variants.{Put, Remove}
 use Rattle.edit_rules.specs.Edits.{Edit, editOf, Caller, indexOfEdit, legalEdit, mayPut, mayRemove, rowFault, isFull, applied, legalCaller, judgement}
 use Rattle.edits.specs.Calls.{ownerJudged, ownerEdit, principalJudged, principalEdit}
-use Rattle.edits.specs.Does.{Call, ask, owner, by, Reply, replyNumber}
+use Rattle.edits.specs.Does.{Call, ask, owner, by, Reply, replyNumber, HandsOctets}
 use Rattle.isolation.specs.Isolation.{Told, calls, Run, done, more, Along, Fresh, Circle, picked, staysInside, insidersEdit, handsSuch, mapsToGroup}
 use Rattle.isolation.specs.Isolation.{givesChosen, findsRoom, othersRefused, Conditions}
 use Rattle.edits.proofs.Steps.{step}
+use Rattle.isolation.specs.Runs.{AllHandOctets, RunOf}
+use Rattle.isolation.proofs.Runs.{every-list-runs}
 use Rattle.isolation.proofs.Alone.{trace, run-trace}
 
 -- ---- names, as octets
@@ -293,6 +296,34 @@ conditions-met {xs = xs} {ys = ys} f g p q d e =
       never-full = (along-every _ p (rw x), along-every _ q (rw y));
       others-refused = (along-every _ p (rw x), along-every _ q (rw y));
     }
+
+-- and there are such runs, on every two stores
+octets-every : (v : List ℕ) → every (λ x. ltb x 256) v ≡ true → Octets v
+octets-every [] h i = omega arith
+octets-every (x ∷ v) h zero = ltb-true x 256 (and-left _ _ h)
+octets-every (x ∷ v) h (suc i) = octets-every v (and-right (ltb x 256) _ h) i
+
+abbrev handsBytes : Call → Bool
+handsBytes (ask q) = true
+handsBytes (owner e) = every (λ x. ltb x 256) (e .bytes)
+handsBytes (by c e) = every (λ x. ltb x 256) (e .bytes)
+
+hands-octets : (c : Call) → handsBytes c ≡ true → HandsOctets c
+hands-octets (ask q) h = tt
+hands-octets (owner e) h = octets-every (e .bytes) h
+hands-octets (by c e) h = octets-every (e .bytes) h
+
+all-hand-octets : (cs : List Call) → every handsBytes cs ≡ true → AllHandOctets cs
+all-hand-octets [] h = tt
+all-hand-octets (c ∷ cs) h = (hands-octets c (and-left _ _ h), all-hand-octets cs (and-right (handsBytes c) _ h))
+
+pub quiet-runs : (s : List ℕ) → Octets s → RunOf s quiet
+unfolding rowFields keyFields
+quiet-runs s b = every-list-runs s b quiet (all-hand-octets quiet refl)
+
+pub busy-runs : (s : List ℕ) → Octets s → RunOf s busy
+unfolding rowFields keyFields
+busy-runs s b = every-list-runs s b busy (all-hand-octets busy refl)
 
 -- a header of zeros with anything behind it, as far as the room goes, is a fresh store
 pub zeros-fresh : (rest : List ℕ) → length (replicate header 0 ++ rest) ≡ room → Fresh (replicate header 0 ++ rest)

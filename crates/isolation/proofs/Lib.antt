@@ -9,4 +9,5 @@ pub mod Steps
 pub mod Alone
 pub mod Isolation
 pub mod Numbers
+pub mod Runs
 pub mod Examples

@@ -9,3 +9,4 @@ pub mod Typed
 pub mod Faults
 pub mod Stores
 pub mod Rooms
+pub mod Existence

@@ -1,0 +1,94 @@
+-- Every call can be made on every store of octets: there is an answer, and a store afterwards, such that the call does just this.
+-- A decision request answers by its definition and leaves the store. An edit of a store that is not sound, or by what is not legal, or that is not
+-- admitted, is refused and leaves the store; any other is an edit of a sound store by legal bytes (`Existence` of crate `edit_rows`). Assumes nothing.
+use mathlib.Core.Path.{_≡_, refl}
+use mathlib.Core.Bool.{Bool, true, false}
+use mathlib.Core.List.{List}
+use Prim.Native.Nat.{ℕ}
+use Rattle.answers.specs.declared.Decision.{Decision}
+use Rattle.answers.specs.declared.Decision.the-variants.{Allowed, Refused}
+use Rattle.answers.specs.declared.Fault.the-variants.{OutOfRange, ContextTable}
+use Rattle.lists.proofs.Bools.{split, clash}
+use Rattle.big_endian.specs.BigEndian.{Octets}
+use Rattle.rows.specs.Tables.{Tables}
+use Rattle.image_layout.specs.Layout.{layoutOf}
+use Rattle.image_judge.specs.Faults.{tablesAt}
+use Rattle.image.specs.Store.{isSound, held}
+use Rattle.decision_steps.specs.Decision.{answer}
+use Rattle.edit_rules.specs.declared.Edited.{Edited}
+use Rattle.edit_rules.specs.declared.Edited.the-variants.{Barred, Faulty}
+use Rattle.edit_rules.specs.Edits.{Outcome, Edit, Caller, edit, legalEdit, legalCaller, isContext, judgement}
+use Rattle.edit_rows.specs.Promise.{Edits}
+use Rattle.edit_rows.proofs.Stores.{edits-unsound}
+use Rattle.edit_rows.proofs.Existence.{Made, edit-made}
+use Rattle.edits.specs.declared.Prepared.the-variants.{Unready}
+use Rattle.edits.specs.Calls.{ownerEdit, principalEdit, prepared}
+use Rattle.edits.specs.Does.{Call, ask, owner, by, Reply, decided, edited, Does, asks, owns, acts, HandsOctets}
+use Rattle.edits.proofs.Calls.{ready-whole, unready-owner, unready-principal, owner-legal, caller-illegal, principal-denied, principal-granted}
+
+-- a store that stays
+stays : (f : Tables → Outcome) (w : List ℕ) → Octets w → {r : Edited} → Edits f w w r → Made f w
+stays f w b {r} p = record { left = w; answered = r; promise = p; octets = b }
+
+module _ (e : Edit) (d : Octets (e .bytes)) (w : List ℕ) (b : Octets w) where
+  unready-is : legalEdit e ≡ false → isSound w ≡ true → Unready OutOfRange ≡ prepared w (e .operation) (e .table) (e .bytes)
+  unready-is l h = rw (h, l)
+
+  -- a legal edit of a sound store
+  made : (strict : Bool) → (strict ≡ true → isContext (e .table) ≡ false) → isSound w ≡ true → legalEdit e ≡ true → Made (λ t. edit strict t e) w
+  made strict n h l =
+      edit-made (e .operation) (e .table) w h b strict n (e .bytes) d (ready-whole (e .operation) (e .table) w (e .bytes) l)
+
+  pub owner-made : Made (λ t. ownerEdit t e) w
+  owner-made =
+      split (isSound w)
+      (λ h. split (legalEdit e)
+      (λ l.
+      let m = made false (λ y. clash y refl) h l in
+      record { left = m .left; answered = m .answered; promise = owner-legal e w l (m .promise); octets = m .octets })
+      (λ l. stays (λ t. ownerEdit t e) w b (unready-owner (e .operation) (e .table) w (e .bytes) (unready-is l h))))
+      (λ h. stays (λ t. ownerEdit t e) w b (edits-unsound (λ t. ownerEdit t e) w h))
+
+  module _ (c : Caller) where
+    abbrev f : Tables → Outcome
+    f = λ t. principalEdit t c e
+
+    -- as the tables judge it
+    judged-made : isSound w ≡ true → legalCaller c ≡ true → legalEdit e ≡ true → isContext (e .table) ≡ false → (j : Decision)
+        → j ≡ judgement (tablesAt w (layoutOf w)) c e → Made f w
+    judged-made h k l o Allowed q =
+        let m = made true (λ y. o) h l in
+        record {
+          left = m .left;
+          answered = m .answered;
+          promise = principal-granted c e w h k l refl (rw (o, ← q)) (m .promise);
+          octets = m .octets;
+        }
+    judged-made h k l o (Refused x) q = stays f w b (principal-denied c e w h k l refl {r = Barred x} (rw (o, ← q)))
+
+    pub principal-made : Made f w
+    principal-made =
+        split (isSound w)
+        (λ h. split (legalEdit e)
+        (λ l. split (legalCaller c)
+        (λ k. split (isContext (e .table))
+        (λ o. stays f w b (principal-denied c e w h k l refl {r = Faulty ContextTable} (rw o)))
+        (λ o. judged-made h k l o (judgement (tablesAt w (layoutOf w)) c e) refl))
+        (λ k. stays f w b (caller-illegal c e w h k)))
+        (λ l. stays f w b (unready-principal (e .operation) (e .table) w (e .bytes) c (unready-is l h))))
+        (λ h. stays f w b (edits-unsound f w h))
+
+-- ---- a call
+
+pub record Done (w : List ℕ) (c : Call) : Type 0 where
+  pub reply : Reply
+  pub left : List ℕ
+  pub does : Does w c reply left
+  pub octets : Octets left
+
+pub call-done : (w : List ℕ) → Octets w → (c : Call) → HandsOctets c → Done w c
+call-done w b (ask q) d = record { reply = decided (answer (held w) q); left = w; does = asks refl; octets = b }
+call-done w b (owner e) d =
+    let m = owner-made e d w b in record { reply = edited (m .answered); left = m .left; does = owns (m .promise); octets = m .octets }
+call-done w b (by c e) d =
+    let m = principal-made e d w b c in record { reply = edited (m .answered); left = m .left; does = acts (m .promise); octets = m .octets }
