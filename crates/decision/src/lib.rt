@@ -1,27 +1,23 @@
 // The decision of RFC 3415, section 3.2, over the bytes of a table image where they lie.
 use answers::Answer;
-use answers::Cause;
 use answers::Decision;
 use answers::Fault;
-use decision_find::Found;
+use decision_parts::NamedView;
+use decision_parts::Standing;
 use image_judge::Surveyed;
-use image_layout::Extent;
 use image_layout::Layout;
 use rows::MODEL_MAX;
 ghost use mathlib.Core.Path.{_≡_};
-ghost use mathlib.Core.List.{[], map};
 ghost use Prim.Native.Nat.{_≤_};
 ghost use lib.ListN.{length};
-ghost use Rattle.rows.specs.declared.Table.the-variants.{Mapping, Access, View};
-ghost use Rattle.rows.specs.Rows.{mappingOf, accessOf, viewOf};
-ghost use Rattle.image_layout.specs.Layout.{rowsIn};
-ghost use Rattle.image_judge.specs.Faults.{SoundTable, SoundLayout, tablesAt};
-ghost use Rattle.image.specs.Store.{held};
+ghost use Rattle.image_judge.specs.Faults.{SoundLayout, tablesAt};
 ghost use Rattle.decision_steps.specs.Request.{asked, inRange, mostParts};
-ghost use Rattle.decision_steps.specs.Decision.{viewFor, step3, step4, decision, answerOn, answer};
-ghost use Rattle.decision_steps.specs.Bytes.{Whole, identifier};
+ghost use Rattle.decision_steps.specs.Decision.{step5, decision, answerOn};
+ghost use Rattle.decision_steps.specs.Bytes.{identifier};
+ghost use Rattle.decision_parts.specs.Parts.{ViewIn, rowsOf};
+ghost use Rattle.decision.specs.Decides.{Decides};
 
-// The ranges of a request: the models, the levels from noAuthNoPriv to authPriv, the view types from read to notify, a name's octets, and the
+// The ranges of a request: the levels from noAuthNoPriv to authPriv, the view types from read to notify, a name's octets, and a variable's parts and bytes.
 
 const NO_AUTH_NO_PRIV: u32 = 1;
 
@@ -37,82 +33,7 @@ const MOST_PARTS: usize = 128;
 
 const MOST_BYTES: usize = 512;
 
-// ---- steps 4 and 5
-
-// The decision by the view of the name.
-fn by_view(w: &[u8], views: Extent, view_name: &[u8], variable: &[u8]) -> Decision
-    requires { ⌜ SoundTable View (now w) views ⌝ }
-    ensures { λ r. ⌜ r ≡ step4 (identifier (now (variable .entry))) (now («view_name» .entry)) (map viewOf (rowsIn (now (w .entry)) views)) ⌝ }
-{
-    if view_name.len() == 0 {
-        return Decision::Refused(Cause::NoSuchView);
-    }
-    let v = decision_find::find_view(w, views, view_name, variable);
-    if !v.any {
-        return Decision::Refused(Cause::NoSuchView);
-    }
-    let row = v.row;
-    let Found::Row(at, end) = row else {
-        return Decision::Refused(Cause::NotInView);
-    };
-    if decision_views::includes(&w[at..end]) {
-        return Decision::Allowed;
-    }
-    Decision::Refused(Cause::NotInView)
-}
-
-// The decision by the access row.
-fn by_access(w: &[u8], views: Extent, row: &[u8], view_type: u32, variable: &[u8]) -> Decision
-    requires { ⌜ SoundTable View (now w) views ⌝ }
-    requires { ⌜ Whole Access (now row) ⌝ }
-    ensures { λ r. ⌜ r ≡ step4 (identifier (now (variable .entry))) (viewFor «view_type» (accessOf (now (row .entry))))
-        (map viewOf (rowsIn (now (w .entry)) views)) ⌝ }
-{
-    let at = decision_steps::view_at(row, view_type);
-    let from = at + 1;
-    let end = decision_steps::after(row, at);
-    by_view(w, views, &row[from..end], variable)
-}
-
-// ---- step 3
-
-// The decision by the principal's mapping.
-fn by_group(
-    w: &[u8],
-    l: Layout,
-    row: &[u8],
-    security_model: usize,
-    security_level: usize,
-    view_type: u32,
-    context_name: &[u8],
-    variable: &[u8],
-) -> Decision
-    requires { ⌜ SoundLayout (now w) l ⌝ }
-    requires { ⌜ Whole Mapping (now row) ⌝ }
-    ensures { λ r. ⌜ r ≡ step3 (mappingOf (now (row .entry)) .groupName)
-        (asked «security_model» [] «security_level» «view_type» (now («context_name» .entry)) (identifier (now (variable .entry))))
-        (tablesAt (now (w .entry)) l) ⌝ }
-{
-    let at = decision_steps::group_at(row);
-    let from = at + 1;
-    let end = decision_steps::after(row, at);
-    let accesses = l.accesses;
-    let found = decision_find::find_access(
-        w,
-        accesses,
-        &row[from..end],
-        security_model,
-        security_level,
-        context_name,
-    );
-    let Found::Row(a, e) = found else {
-        return Decision::Refused(Cause::NoAccessEntry);
-    };
-    let views = l.views;
-    by_access(w, views, &w[a..e], view_type, variable)
-}
-
-// ---- steps 1 and 2
+// ---- the decision by its two parts
 
 // The decision on tables that are known to be sound. The variable is in parts of 4 bytes.
 pub fn decide(
@@ -130,26 +51,32 @@ pub fn decide(
         (asked «security_model» (now («security_name» .entry)) «security_level» «view_type» (now («context_name» .entry))
         (identifier (now (variable .entry)))) ⌝ }
 {
-    let contexts = l.contexts;
-    let context = decision_find::find_context(w, contexts, context_name);
-    let Found::Row(_, _) = context else {
-        return Decision::Refused(Cause::NoSuchContext);
-    };
-    let mappings = l.mappings;
-    let mapping = decision_find::find_mapping(w, mappings, security_model, security_name);
-    let Found::Row(a, e) = mapping else {
-        return Decision::Refused(Cause::NoGroupName);
-    };
-    by_group(
+    let authorized = decision_parts::authorize(
         w,
         l,
-        &w[a..e],
         security_model,
+        security_name,
         security_level,
         view_type,
         context_name,
-        variable,
-    )
+    );
+    let standing = authorized.standing;
+    match standing {
+        Standing::Denied(cause) => Decision::Refused(cause),
+        Standing::Viewed(v) => decision_parts::decide_in(w, v, variable),
+    }
+}
+
+// Step 5 of a variable in numbers, no more than 128 of them: the decision on it by the view.
+pub fn decide_variable_in(w: &[u8], v: NamedView, variable_name: &[u32]) -> Decision
+    requires view { ⌜ ViewIn (now w) v ⌝ }
+    requires parts { ⌜ length (now «variable_name») ≤ mostParts ⌝ }
+    ensures { λ r. ⌜ r ≡ step5 (now («variable_name» .entry)) (rowsOf (now (w .entry)) v) ⌝ }
+{
+    let mut bytes = [0u8; MOST_BYTES];
+    let n = 4 * variable_name.len();
+    big_endian::put_quads(&mut bytes[0..n], variable_name);
+    decision_parts::decide_in(w, v, &bytes[0..n])
 }
 
 // The same of a variable in numbers, no more than 128 of them.
@@ -163,15 +90,12 @@ pub fn decide_variable(
     context_name: &[u8],
     variable_name: &[u32],
 ) -> Decision
-    requires { ⌜ SoundLayout (now w) l ⌝ }
-    requires { ⌜ length (now «variable_name») ≤ mostParts ⌝ }
+    requires tables { ⌜ SoundLayout (now w) l ⌝ }
+    requires parts { ⌜ length (now «variable_name») ≤ mostParts ⌝ }
     ensures { λ r. ⌜ r ≡ decision (tablesAt (now (w .entry)) l)
         (asked «security_model» (now («security_name» .entry)) «security_level» «view_type» (now («context_name» .entry)) (now («variable_name» .entry))) ⌝ }
 {
-    let mut bytes = [0u8; MOST_BYTES];
-    let n = 4 * variable_name.len();
-    big_endian::put_quads(&mut bytes[0..n], variable_name);
-    decide(
+    let authorized = decision_parts::authorize(
         w,
         l,
         security_model as usize,
@@ -179,8 +103,12 @@ pub fn decide_variable(
         security_level as usize,
         view_type,
         context_name,
-        &bytes[0..n],
-    )
+    );
+    let standing = authorized.standing;
+    match standing {
+        Standing::Denied(cause) => Decision::Refused(cause),
+        Standing::Viewed(v) => decide_variable_in(w, v, variable_name),
+    }
 }
 
 // ---- the call
@@ -252,8 +180,9 @@ pub fn is_access_allowed(
     context_name: &[u8],
     variable_name: &[u32],
 ) -> Answer
-    ensures { λ r. ⌜ r ≡ answer (held (now (store .entry)))
-        (asked «security_model» (now («security_name» .entry)) «security_level» «view_type» (now («context_name» .entry)) (now («variable_name» .entry))) ⌝ }
+    ensures { λ r. ⌜ Decides
+        (asked «security_model» (now («security_name» .entry)) «security_level» «view_type» (now («context_name» .entry)) (now («variable_name» .entry)))
+        (now (store .entry)) r ⌝ }
 {
     let surveyed = image::survey_store(store);
     let Surveyed::Laid(l) = surveyed else {

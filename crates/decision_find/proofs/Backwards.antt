@@ -30,7 +30,7 @@ is-none (some f) e = cc
 
 -- ---- rows behind the first i
 
-total-parts : (i : ℕ) (ls : List ℕ) → total ls ≡ total (take i ls) + total (drop i ls)
+pub total-parts : (i : ℕ) (ls : List ℕ) → total ls ≡ total (take i ls) + total (drop i ls)
 total-parts zero ls = omega arith
 total-parts (suc i) [] = refl
 total-parts (suc i) (l ∷ ls) = omega (arith, total-parts i ls)

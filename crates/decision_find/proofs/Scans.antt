@@ -63,7 +63,7 @@ module _ {R : Type 0} {t : Table} {of : List ℕ → R} {p : R → Bool} {w : Li
   module _ (h : i < x .count) (l : ℕ) (e : l ≡ pair (drop g w)) where
     pub first-found : p (of (piece w o (o + l))) ≡ true → Chosen t of w (Row o (o + l)) all
     first-found q = record {
-      lies = (omega arith, scan-row k h l e);
+      lies = record { starts = omega arith; ends = scan-row k h l e };
       whole = scan-whole k h l e;
       is = sym (cond-true _ _ q) ∙ scan-first k h l e;
     }

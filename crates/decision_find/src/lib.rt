@@ -1,16 +1,13 @@
 // The rows that RFC 3415, section 3.2, chooses, found over the bytes of a table image where they lie: each table's rows are passed once at most.
-use decision_views::Sighting;
 use image_layout::Extent;
-ghost use mathlib.Core.Path.{_≡_};
 ghost use mathlib.Core.List.{map};
-ghost use Rattle.lists.specs.Lists.{any, keep};
 ghost use Rattle.rows.specs.declared.Table.the-variants.{Context, Mapping, Access, View};
 ghost use Rattle.rows.specs.Rows.{contextOf, mappingOf, accessOf, viewOf};
 ghost use Rattle.image_layout.specs.Layout.{rowsIn};
 ghost use Rattle.image_judge.specs.Faults.{SoundTable};
-ghost use Rattle.decision_steps.specs.Decision.{bearsContext, mapsPrincipal, chosenAccess, inView, chosenView};
+ghost use Rattle.decision_steps.specs.Decision.{bearsContext, mapsPrincipal, chosenAccess, chosenView};
 ghost use Rattle.decision_steps.specs.Bytes.{identifier};
-ghost use Rattle.decision_find.specs.Found.{Chosen, firstOf};
+ghost use Rattle.decision_find.specs.Found.{Chosen, firstOf, RowsTo, rowsOfView, ToLast};
 
 // A row's place in the image.
 pub enum Found {
@@ -18,10 +15,10 @@ pub enum Found {
     Nothing,
 }
 
-// What the rows of a view say of a variable: whether there is any, and the row that decides.
-pub struct Viewed {
-    pub any: bool,
-    pub row: Found,
+// The rows of the view table up to one of them, and where that one ends.
+pub struct ViewRows {
+    pub rows: Extent,
+    pub end: usize,
 }
 
 // ---- steps 1 and 2: two searches, each with its own test, so that each is compiled for its test
@@ -112,37 +109,60 @@ pub fn find_access(
     found
 }
 
-// ---- steps 4 and 5: in the order of the indices the last row of a view that matches is the longest, then the greatest
+// ---- steps 4 and 5: from the end, since in the order of the indices the last row of a view that matches is the longest, then the greatest
 
-// The row of the view that decides on the variable, from the end, so that the first row that matches is the one.
-pub fn find_view(w: &[u8], x: Extent, view_name: &[u8], variable: &[u8]) -> Viewed
+// The rows up to the last that is in the view of the name; none where the view has none.
+pub fn find_view(w: &[u8], x: Extent, view_name: &[u8]) -> ViewRows
     requires { ⌜ SoundTable View (now w) x ⌝ }
-    ensures some { λ r. ⌜ r .any ≡ any (inView (now («view_name» .entry))) (map viewOf (rowsIn (now (w .entry)) x)) ⌝ }
-    ensures row { λ r. ⌜ Chosen View viewOf (now (w .entry)) (r .row)
-        (chosenView (identifier (now (variable .entry))) (keep (inView (now («view_name» .entry))) (map viewOf (rowsIn (now (w .entry)) x)))) ⌝ }
+    ensures { λ r. ⌜ ToLast (now («view_name» .entry)) (now (w .entry)) x r ⌝ }
 {
+    let mut n = x.count;
+    let mut g = x.lengths + 2 * n;
+    let mut e = image_layout::end_of(w, x);
+    while 0 < n {
+        g -= 2;
+        let o = e - image_layout::pair_at(w, g);
+        if decision_views::is_in_view(&w[o..e], view_name) {
+            return ViewRows {
+                rows: Extent {
+                    lengths: x.lengths,
+                    rows: x.rows,
+                    count: n,
+                },
+                end: e,
+            };
+        }
+        e = o;
+        n -= 1;
+    }
+    ViewRows {
+        rows: Extent {
+            lengths: x.lengths,
+            rows: x.rows,
+            count: 0,
+        },
+        end: e,
+    }
+}
+
+// The row of the view of the name that decides on the variable, among rows that hold all of the view.
+pub fn find_view_row(w: &[u8], v: ViewRows, view_name: &[u8], variable: &[u8]) -> Found
+    requires { ⌜ RowsTo (now w) v ⌝ }
+    ensures { λ r. ⌜ Chosen View viewOf (now (w .entry)) r
+        (chosenView (identifier (now (variable .entry))) (rowsOfView (now («view_name» .entry)) (now (w .entry)) (v .rows))) ⌝ }
+{
+    let x = v.rows;
     let mut i = x.count;
     let mut g = x.lengths + 2 * i;
-    let mut e = image_layout::end_of(w, x);
-    let mut any = false;
+    let mut e = v.end;
     while 0 < i {
         g -= 2;
         let o = e - image_layout::pair_at(w, g);
-        let s = decision_views::sight(&w[o..e], view_name, variable);
-        if let Sighting::Matched = s {
-            return Viewed {
-                any: true,
-                row: Found::Row(o, e),
-            };
-        }
-        if let Sighting::Unmatched = s {
-            any = true;
+        if decision_views::is_matching(&w[o..e], view_name, variable) {
+            return Found::Row(o, e);
         }
         e = o;
         i -= 1;
     }
-    Viewed {
-        any,
-        row: Found::Nothing,
-    }
+    Found::Nothing
 }

@@ -3,3 +3,4 @@ pub mod Identifiers
 pub mod Masks
 pub mod Steps
 pub mod Choices
+pub mod Parts

@@ -23,6 +23,16 @@ NameIn row at = at + 1 + getD row at 0 ≤ length row
 abbrev pub nameAt : List ℕ → ℕ → List ℕ
 nameAt row at = take (getD row at 0) (drop (at + 1) row)
 
+-- where the field after the name at `at` begins
+pub record After (row : List ℕ) (at end : ℕ) : Type 0 where
+  pub is : end ≡ at + 1 + getD row at 0
+  pub inside : end ≤ length row
+
+-- a name that is known lies at `at`
+pub record NamedAt (row : List ℕ) (at : ℕ) (name : List ℕ) : Type 0 where
+  pub lies : NameIn row at
+  pub is : nameAt row at ≡ name
+
 -- an identifier in parts of 4 bytes, big-endian; a torn last part does not count
 unfoldable pub identifier : List ℕ → List ℕ
 identifier v = numbers quad (length v / 4) v

@@ -149,6 +149,42 @@ step1 q t = orRefused NoSuchContext (find (bearsContext (q .contextName)) (t .va
 unfoldable pub decision : Tables → Request → Decision
 decision t q = step1 q t
 
+-- ---- the decision in two parts: steps 1 to 4, the same for every variable, and step 5
+
+-- what steps 1 to 4 come to: a cause, or the active rows of the view, at least one
+pub data Authority : Type 0 where
+  denied : Cause → Authority
+  viewed : List ViewRow → Authority
+
+abbrev pub orDenied : {A : Type 0} → Cause → Option A → (A → Authority) → Authority
+orDenied cause none next = denied cause
+orDenied cause (some x) next = next x
+
+unfoldable pub authority : Tables → ℕ → List ℕ → ℕ → ℕ → List ℕ → Authority
+authority t model name level view context =
+    orDenied NoSuchContext (find (bearsContext context) (t .vacmContextTable)) (λ c.
+    orDenied NoGroupName (find (mapsPrincipal model name) (t .vacmSecurityToGroupTable)) (λ m.
+    orDenied NoAccessEntry (chosenAccess (m .groupName) model level context (t .vacmAccessTable)) (λ a.
+    orDenied NoSuchView (ifAny (viewRows (viewFor view a) (t .vacmViewTreeFamilyTable))) viewed)))
+
+-- step 5 of a variable
+abbrev pub byAuthority : List ℕ → Authority → Decision
+byAuthority variable (denied cause) = Refused cause
+byAuthority variable (viewed rs) = step5 variable rs
+
+-- the rows that steps 2 and 3 choose, none where the steps do not get there
+abbrev pub ifFound : {A B : Type 0} → Option A → (A → Option B) → Option B
+ifFound none next = none
+ifFound (some x) next = next x
+
+unfoldable pub mappingRow : Tables → ℕ → List ℕ → List ℕ → Option MappingRow
+mappingRow t model name context =
+    ifFound (find (bearsContext context) (t .vacmContextTable)) (λ c. find (mapsPrincipal model name) (t .vacmSecurityToGroupTable))
+
+unfoldable pub accessRow : Tables → ℕ → List ℕ → ℕ → List ℕ → Option AccessRow
+accessRow t model name level context =
+    ifFound (mappingRow t model name context) (λ m. chosenAccess (m .groupName) model level context (t .vacmAccessTable))
+
 -- ---- the call: 6 before 7 before the steps
 
 abbrev pub ifLegal : Bool → Tables → Request → Answer

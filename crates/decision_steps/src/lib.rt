@@ -6,7 +6,7 @@ ghost use Rattle.lists.specs.Order.{same};
 ghost use Rattle.rows.specs.declared.Table.the-variants.{Context, Mapping, Access};
 ghost use Rattle.rows.specs.Rows.{contextOf, mappingOf, accessOf};
 ghost use Rattle.decision_steps.specs.Decision.{isActive, bearsContext, mapsPrincipal, contextFits, viewFor};
-ghost use Rattle.decision_steps.specs.Bytes.{Whole, NameIn, nameAt, rankOf};
+ghost use Rattle.decision_steps.specs.Bytes.{Whole, NameIn, nameAt, After, NamedAt, rankOf};
 
 // A row's status (RowStatus): only active rows take part.
 const ACTIVE: u8 = 1;
@@ -27,7 +27,7 @@ const WRITE: u32 = 2;
 // Where the field after the name at `at` begins.
 pub fn after(row: &[u8], at: usize) -> usize
     requires { ⌜ NameIn (now row) at ⌝ }
-    ensures { λ r. ⌜ (r ≡ at + 1 + getD (now (row .entry)) at 0) × (r ≤ length (now (row .entry))) ⌝ }
+    ensures { λ r. ⌜ After (now (row .entry)) at r ⌝ }
 {
     at + 1 + big_endian::wide(row[at])
 }
@@ -80,7 +80,7 @@ pub fn maps_principal(row: &[u8], security_model: usize, security_name: &[u8]) -
 // Where the group's name lies in a mapping row.
 pub fn group_at(row: &[u8]) -> usize
     requires { ⌜ Whole Mapping (now row) ⌝ }
-    ensures { λ r. ⌜ NameIn (now (row .entry)) r × (nameAt (now (row .entry)) r ≡ mappingOf (now (row .entry)) .groupName) ⌝ }
+    ensures { λ r. ⌜ NamedAt (now (row .entry)) r (mappingOf (now (row .entry)) .groupName) ⌝ }
 {
     after(row, 4)
 }
@@ -89,7 +89,8 @@ pub fn group_at(row: &[u8]) -> usize
 
 // Whether the prefix at `at` of the row fits the context, by the match octet at `matching`.
 fn fits(row: &[u8], at: usize, matching: usize, context_name: &[u8]) -> bool
-    requires { ⌜ NameIn (now row) at × (matching < length (now row)) ⌝ }
+    requires prefix { ⌜ NameIn (now row) at ⌝ }
+    requires octet { ⌜ matching < length (now row) ⌝ }
     ensures { λ r. ⌜ r ≡ contextFits (getD (now (row .entry)) matching 0) (nameAt (now (row .entry)) at) (now («context_name» .entry)) ⌝ }
 {
     if row[matching] == EXACT {
@@ -144,7 +145,7 @@ pub fn rank(
 // Where the name of the view for the view type lies in an access row.
 pub fn view_at(row: &[u8], view_type: u32) -> usize
     requires { ⌜ Whole Access (now row) ⌝ }
-    ensures { λ r. ⌜ NameIn (now (row .entry)) r × (nameAt (now (row .entry)) r ≡ viewFor «view_type» (accessOf (now (row .entry)))) ⌝ }
+    ensures { λ r. ⌜ NamedAt (now (row .entry)) r (viewFor «view_type» (accessOf (now (row .entry)))) ⌝ }
 {
     let p = after(row, 0);
     let read = after(row, p) + 6;

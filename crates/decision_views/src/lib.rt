@@ -5,16 +5,9 @@ ghost use lib.Dec.{eqb};
 ghost use lib.ListN.{length};
 ghost use Rattle.rows.specs.declared.Table.the-variants.{View};
 ghost use Rattle.rows.specs.Rows.{viewOf};
-ghost use Rattle.decision_steps.specs.Decision.{maskBit, agrees, included};
+ghost use Rattle.decision_steps.specs.Decision.{inView, maskBit, agrees, included};
 ghost use Rattle.decision_steps.specs.Bytes.{Whole, identifier};
-ghost use Rattle.decision_views.specs.Sights.{sighting};
-
-// How a view row stands to a variable.
-pub enum Sighting {
-    Elsewhere,
-    Unmatched,
-    Matched,
-}
+ghost use Rattle.decision_views.specs.Matching.{matching};
 
 // A view row's type.
 const INCLUDED: u8 = 1;
@@ -62,26 +55,32 @@ fn is_below(subtree: &[u8], mask: &[u8], variable: &[u8]) -> bool
     true
 }
 
-// How a view row stands to the view of the name and to the variable, which is in parts of 4 bytes.
-pub fn sight(row: &[u8], view_name: &[u8], variable: &[u8]) -> Sighting
+// Whether a view row is active and of the view of the name.
+pub fn is_in_view(row: &[u8], view_name: &[u8]) -> bool
     requires { ⌜ Whole View (now row) ⌝ }
-    ensures { λ r. ⌜ r ≡ sighting (now («view_name» .entry)) (identifier (now (variable .entry))) (viewOf (now (row .entry))) ⌝ }
+    ensures { λ r. ⌜ r ≡ inView (now («view_name» .entry)) (viewOf (now (row .entry))) ⌝ }
 {
     if !decision_steps::is_name(row, 0, view_name) {
-        return Sighting::Elsewhere;
+        return false;
     }
-    if !decision_steps::is_active(row) {
-        return Sighting::Elsewhere;
-    }
+    decision_steps::is_active(row)
+}
+
+// Whether a view row is in the view of the name and matches the variable, which is in parts of 4 bytes. The subtree is looked at first, since rows
+// of one view differ in it and share the name.
+pub fn is_matching(row: &[u8], view_name: &[u8], variable: &[u8]) -> bool
+    requires { ⌜ Whole View (now row) ⌝ }
+    ensures { λ r. ⌜ r ≡ matching (now («view_name» .entry)) (identifier (now (variable .entry))) (viewOf (now (row .entry))) ⌝ }
+{
     let s = decision_steps::after(row, 0);
     let from = s + 1;
     let mask = from + 4 * big_endian::wide(row[s]);
     let bits = mask + 1;
     let end = decision_steps::after(row, mask);
-    if is_below(&row[from..mask], &row[bits..end], variable) {
-        return Sighting::Matched;
+    if !is_below(&row[from..mask], &row[bits..end], variable) {
+        return false;
     }
-    Sighting::Unmatched
+    is_in_view(row, view_name)
 }
 
 // Whether a view row includes: its type is the last octet but two.

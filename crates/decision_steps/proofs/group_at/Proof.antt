@@ -9,8 +9,8 @@ after-requires c κs = mapping-at _ _ refl (c .before .pre) .name
 
 returns : tie.Need-returns
 returns c =
-    let l = mapping-at _ _ (c .after .ensures .0) (c .before .before .pre) in
-    (l .group, sym (ap (λ m. m .groupName) (l .holds)))
+    let l = mapping-at _ _ (c .after .ensures .is) (c .before .before .pre) in
+    record { lies = l .group; is = sym (ap (λ m. m .groupName) (l .holds)) }
 
 pub group-at-spec : {M : Type 1} → statement M
 group-at-spec = tie.close (tie.spec after-requires returns)

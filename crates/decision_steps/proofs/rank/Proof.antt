@@ -24,7 +24,7 @@ abbrev start : tie.After-after2 → tie.Start
 start c = c .before .before .before .before .before .before .before .before .before
 
 places : (c : tie.After-after2) → AccessFrom (start c .args .row .now) (c .before .after .result) (c .after2 .result)
-places c = access-from _ _ _ (c .before .after .ensures .0) (c .after2 .ensures .0) (start c .pre)
+places c = access-from _ _ _ (c .before .after .ensures .is) (c .after2 .ensures .is) (start c .pre)
 
 -- what the first three tests showed
 passed : (c : tie.Else3) → let b = c .before .before in let s = start b .args in let row = s .row .now in
@@ -66,7 +66,7 @@ after-requires : tie.Need-after-requires
 after-requires c κs = whole (c .before .before .before .before .before .before .before) .group
 
 after-requires-2 : tie.Need-after-requires-2
-after-requires-2 c κs = access-from _ _ _ (c .after .ensures .0) refl (c .before .before .before .before .before .before .before .before .pre) .prefix
+after-requires-2 c κs = access-from _ _ _ (c .after .ensures .is) refl (c .before .before .before .before .before .before .before .before .pre) .prefix
 
 fits-requires : tie.Need-fits-requires
 fits-requires c κs = let l = places c in (l .prefix, omega (arith, l .read))

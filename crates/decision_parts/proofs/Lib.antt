@@ -1,0 +1,2 @@
+pub mod Standings
+pub mod Decisions
