@@ -7,7 +7,8 @@ ghost use Rattle.big_endian.specs.BigEndian.{quad, number, bytes, bytesO
 
 // An octet as a length or a place.
 pub fn wide(x: u8) -> usize
-    ensures { λ r. ⌜ (r ≡ x) × (r < 256) ⌝ }
+    ensures equal { λ r. ⌜ r ≡ x ⌝ }
+    ensures bounded { λ r. ⌜ r < 256 ⌝ }
 {
     x as usize
 }
@@ -15,7 +16,8 @@ pub fn wide(x: u8) -> usize
 // The number that the four bytes at `at` say, big-endian.
 pub fn quad_at(row: &[u8], at: usize) -> usize
     requires { ⌜ at + 4 ≤ length (now row) ⌝ }
-    ensures { λ r. ⌜ (r ≡ number quad (drop at (now (row .entry)))) × (r < 4294967296) ⌝ }
+    ensures value { λ r. ⌜ r ≡ number quad (drop at (now (row .entry))) ⌝ }
+    ensures bounded { λ r. ⌜ r < 4294967296 ⌝ }
 {
     let a = wide(row[at]);
     let b = wide(row[at + 1]);

@@ -142,7 +142,8 @@ fn decide_write(
     security_level: u32,
     variable: &[u32],
 ) -> Decision
-    requires { ⌜ SoundLayout (now w) l × (length (now variable) ≤ 128) ⌝ }
+    requires tables { ⌜ SoundLayout (now w) l ⌝ }
+    requires parts { ⌜ length (now variable) ≤ 128 ⌝ }
     ensures { λ r. ⌜ r ≡ decision (tablesAt (now (w .entry)) l) (asked «security_model» (now («security_name» .entry)) «security_level» write []
         (now (variable .entry))) ⌝ }
 {
@@ -169,7 +170,8 @@ fn judge_edit(
     t: Table,
     key: &[u8],
 ) -> Decision
-    requires { ⌜ SoundLayout (now w) l × (faults (keyFields t) (now key) ≡ none) ⌝ }
+    requires tables { ⌜ SoundLayout (now w) l ⌝ }
+    requires whole { ⌜ faults (keyFields t) (now key) ≡ none ⌝ }
     ensures { λ r. ⌜ r ≡ judgement (tablesAt (now (w .entry)) l) (callerOf «security_model» (now («security_name» .entry)) «security_level»)
         (editOf Remove t (now (key .entry))) ⌝ }
 {
@@ -204,7 +206,8 @@ pub fn admit(
     t: Table,
     key: &[u8],
 ) -> Admission
-    requires { ⌜ SoundLayout (now w) l × (faults (keyFields t) (now key) ≡ none) ⌝ }
+    requires tables { ⌜ SoundLayout (now w) l ⌝ }
+    requires whole { ⌜ faults (keyFields t) (now key) ≡ none ⌝ }
     ensures { λ r. ⌜ r ≡ admission (isContext t) (judgement (tablesAt (now (w .entry)) l)
         (callerOf «security_model» (now («security_name» .entry)) «security_level») (editOf Remove t (now (key .entry)))) ⌝ }
 {

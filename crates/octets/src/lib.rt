@@ -9,7 +9,8 @@ ghost use Rattle.octets.specs.Order.{order};
 // Whether the four octets at `i` are the same, which is where the numbers that they say are. Joined by `&`, they become one load and one
 // comparison.
 pub fn same_four(a: &[u8], b: &[u8], i: usize) -> bool
-    requires { ⌜ (i + 4 ≤ length (now a)) × (i + 4 ≤ length (now b)) ⌝ }
+    requires first { ⌜ i + 4 ≤ length (now a) ⌝ }
+    requires second { ⌜ i + 4 ≤ length (now b) ⌝ }
     ensures { λ r. ⌜ r ≡ sameFour (now (a .entry)) (now (b .entry)) i ⌝ }
 {
     (a[i] == b[i]) & (a[i + 1] == b[i + 1]) & (a[i + 2] == b[i + 2]) & (a[i + 3] == b[i + 3])
@@ -17,7 +18,8 @@ pub fn same_four(a: &[u8], b: &[u8], i: usize) -> bool
 
 // Whether the eight octets at `i` are the same, by one comparison likewise.
 pub fn same_eight(a: &[u8], b: &[u8], i: usize) -> bool
-    requires { ⌜ (i + 8 ≤ length (now a)) × (i + 8 ≤ length (now b)) ⌝ }
+    requires first { ⌜ i + 8 ≤ length (now a) ⌝ }
+    requires second { ⌜ i + 8 ≤ length (now b) ⌝ }
     ensures { λ r. ⌜ r ≡ sameEight (now (a .entry)) (now (b .entry)) i ⌝ }
 {
     same_four(a, b, i) & same_four(a, b, i + 4)
@@ -29,7 +31,8 @@ pub fn skip(a: &[u8], b: &[u8], from: usize, n: usize) -> usize
     requires { ⌜ n ≤ length (now a) ⌝ }
     requires { ⌜ n ≤ length (now b) ⌝ }
     requires { ⌜ take from (now a) ≡ take from (now b) ⌝ }
-    ensures { λ r. ⌜ (r ≤ n) × (take r (now (a .entry)) ≡ take r (now (b .entry))) ⌝ }
+    ensures within { λ r. ⌜ r ≤ n ⌝ }
+    ensures equal { λ r. ⌜ take r (now (a .entry)) ≡ take r (now (b .entry)) ⌝ }
 {
     let mut i = from;
     while 8 <= n - i {
@@ -79,7 +82,8 @@ pub enum Order {
 fn skip_long(a: &[u8], b: &[u8], n: usize) -> usize
     requires { ⌜ n ≤ length (now a) ⌝ }
     requires { ⌜ n ≤ length (now b) ⌝ }
-    ensures { λ r. ⌜ (r ≤ n) × (take r (now (a .entry)) ≡ take r (now (b .entry))) ⌝ }
+    ensures within { λ r. ⌜ r ≤ n ⌝ }
+    ensures equal { λ r. ⌜ take r (now (a .entry)) ≡ take r (now (b .entry)) ⌝ }
 {
     let mut i = 0;
     while 32 <= n - i {

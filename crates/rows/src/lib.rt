@@ -188,7 +188,8 @@ pub fn within(lo: usize, hi: usize, x: usize) -> bool
 
 // A count byte from `lo` to `hi` and as many parts of `size` bytes.
 fn sequence(row: &[u8], at: usize, size: usize, lo: usize, hi: usize) -> Step
-    requires { ⌜ (at ≤ length (now row)) × (size ≤ 4) ⌝ }
+    requires inside { ⌜ at ≤ length (now row) ⌝ }
+    requires few { ⌜ size ≤ 4 ⌝ }
     ensures { λ r. ⌜ r ≡ sequenceStep size lo hi (now (row .entry)) at ⌝ }
 {
     if row.len() <= at {
@@ -236,7 +237,8 @@ fn field(f: Form, row: &[u8], at: usize) -> Step
 
 // The fields from place `from` to before place `to`, the first of them at `at`: where they end.
 fn fields(t: Table, from: usize, to: usize, row: &[u8], at: usize) -> Step
-    requires { ⌜ (to ≤ length (rowFields t)) × (at ≤ length (now row)) ⌝ }
+    requires fields { ⌜ to ≤ length (rowFields t) ⌝ }
+    requires inside { ⌜ at ≤ length (now row) ⌝ }
     ensures { λ r. ⌜ r ≡ fieldsStep (drop from (take to (rowFields t))) (now (row .entry)) at ⌝ }
 {
     let mut i = from;

@@ -29,7 +29,8 @@ const STATUS_LAST: usize = rows::NOT_IN_SERVICE as usize;
 // The byte at a place, as a length.
 fn byte_at(row: &[u8], at: usize) -> usize
     requires { ⌜ at < length (now row) ⌝ }
-    ensures { λ r. ⌜ (r ≡ getD (now (row .entry)) at 0) × (r < 256) ⌝ }
+    ensures value { λ r. ⌜ r ≡ getD (now (row .entry)) at 0 ⌝ }
+    ensures bounded { λ r. ⌜ r < 256 ⌝ }
 {
     big_endian::wide(row[at])
 }

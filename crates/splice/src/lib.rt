@@ -25,7 +25,8 @@ pub fn copy_in(w: &mut [u8], at: usize, new: &[u8])
 
 // Moves the block at `from` to `to`. All are read before one is stored, so that they become wide loads and stores.
 fn move_block(w: &mut [u8], from: usize, to: usize)
-    requires { ⌜ (from + block ≤ length (now w)) × (to + block ≤ length (now w)) ⌝ }
+    requires source { ⌜ from + block ≤ length (now w) ⌝ }
+    requires target { ⌜ to + block ≤ length (now w) ⌝ }
     ensures { λ _. ⌜ now (w .exit) ≡ moved (now (w .entry)) from (from + block) to ⌝ }
 {
     let mut block = [0u8; BLOCK];
@@ -36,7 +37,8 @@ fn move_block(w: &mut [u8], from: usize, to: usize)
 
 // Moves blocks from `end` on by `by`, the last first, while one fits behind `from`, and says from where on.
 fn move_blocks_up(w: &mut [u8], from: usize, end: usize, by: usize) -> usize
-    requires { ⌜ (from ≤ end) × (end + by ≤ length (now w)) ⌝ }
+    requires part { ⌜ from ≤ end ⌝ }
+    requires room { ⌜ end + by ≤ length (now w) ⌝ }
     ensures { λ r. ⌜ (from ≤ r) × (r ≤ end) × (now (w .exit) ≡ moved (now (w .entry)) r end (r + by)) ⌝ }
 {
     let mut j = end;
@@ -49,7 +51,8 @@ fn move_blocks_up(w: &mut [u8], from: usize, end: usize, by: usize) -> usize
 
 // Moves the octets from `from` up to `end` on by `by`, the last first.
 fn move_up(w: &mut [u8], from: usize, end: usize, by: usize)
-    requires { ⌜ (from ≤ end) × (end + by ≤ length (now w)) ⌝ }
+    requires part { ⌜ from ≤ end ⌝ }
+    requires room { ⌜ end + by ≤ length (now w) ⌝ }
     ensures { λ _. ⌜ now (w .exit) ≡ moved (now (w .entry)) from end (from + by) ⌝ }
 {
     let mut j = move_blocks_up(w, from, end, by);
