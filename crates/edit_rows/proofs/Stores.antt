@@ -44,7 +44,7 @@ use Rattle.rows.specs.declared.Operation.the-variants.{Put, Remove}
 use Rattle.edit_rules.specs.declared.Edited.{Edited}
 use Rattle.edit_rules.proofs.Edited.{the-type}
 use Rattle.edit_rules.specs.declared.Edited.the-variants.{Done, Barred, Faulty}
-use Rattle.edit_rules.specs.Edits.{Outcome, outcome, editOf, fieldsOf, faulted, edit, isContext}
+use Rattle.edit_rules.specs.Edits.{Outcome, outcome, editedNumber, editOf, fieldsOf, faulted, edit, isContext}
 use Rattle.edit_rules.specs.TableRows.{rowOf, rowIndex, rowsOf}
 use Rattle.edit_rules.specs.Storage.{storageIn, storageAt, StorageKnown, placeFault, placed, fullAt}
 use Rattle.edit_rules.proofs.Storages.{storage-room, storage-at, held-storage}
@@ -110,7 +110,7 @@ held-ascends w e u =
 pub edits-unsound : (f : Tables → Outcome) (w : List ℕ) → isSound w ≡ false → Edits f w w (Faulty NotSound)
 edits-unsound f w h =
     let e = held-unsound w h in
-    record { answer-is = sym (ap (answered f) e); rows-are = e ∙ sym (ap (left f) e); refusal-keeps = λ n. refl }
+    record { answer-is = sym (ap (answered f) e); number-is = ap editedNumber (sym (ap (answered f) e)); rows-are = e ∙ sym (ap (left f) e); refusal-keeps = λ n. refl }
 
 module _ (f : Tables → Outcome) (w : List ℕ) (h : isSound w ≡ true) where
   edits-made : (after : List ℕ) (r : Edited) → isSound after ≡ true → f (tables (storeRows w)) ≡ outcome r (tables (storeRows after)) →
@@ -118,6 +118,7 @@ module _ (f : Tables → Outcome) (w : List ℕ) (h : isSound w ≡ true) where
       → Edits f w after r
   edits-made after r g e k = record {
     answer-is = sym (ap (answered f) (held-sound w h) ∙ ap (λ o. o .answer) e);
+    number-is = ap editedNumber (sym (ap (answered f) (held-sound w h) ∙ ap (λ o. o .answer) e));
     rows-are = held-sound after g ∙ sym (ap (left f) (held-sound w h) ∙ ap (λ o. some (o .rows)) e);
     refusal-keeps = k;
   }
@@ -132,6 +133,7 @@ module _ (f : Tables → Outcome) (w : List ℕ) (h : isSound w ≡ true) where
       let q = held-sound w h in
       record {
         answer-is = k .answer-is ∙ ap (answered g) q ∙ sym (ap (answered f) q ∙ ap (λ o. o .answer) e);
+        number-is = ap editedNumber (k .answer-is ∙ ap (answered g) q ∙ sym (ap (answered f) q ∙ ap (λ o. o .answer) e));
         rows-are = k .rows-are ∙ ap (left g) q ∙ sym (ap (left f) q ∙ ap (λ o. some (o .rows)) e);
         refusal-keeps = k .refusal-keeps;
       }

@@ -16,7 +16,7 @@ use Rattle.rows.specs.declared.Operation.{Operation}
 use Rattle.rows.specs.declared.Operation.the-variants.{Put, Remove}
 use Rattle.edit_rules.specs.declared.Edited.{Edited}
 use Rattle.edit_rules.specs.declared.Edited.the-variants.{Done, Faulty}
-use Rattle.edit_rules.specs.Edits.{Outcome, fieldsOf, isContext}
+use Rattle.edit_rules.specs.Edits.{Outcome, editedNumber, fieldsOf, isContext}
 
 -- 6 first
 abbrev pub answered : (Tables → Outcome) → Option Tables → Edited
@@ -30,6 +30,7 @@ left f (some t) = some (f t .rows)
 -- a call that edits by f, from the store `found` to the store `after`
 pub record Edits (f : Tables → Outcome) (found after : List ℕ) (r : Edited) : Type 0 where
   pub answer-is : r ≡ answered f (held found)
+  pub number-is : editedNumber r ≡ editedNumber (answered f (held found))
   pub rows-are : held after ≡ left f (held found)
   pub refusal-keeps : (r ≡ Done → ⊥) → after ≡ found
 

@@ -9,6 +9,7 @@ use lib.ListN.{length}
 use Rattle.answers.specs.declared.Decision.{Decision}
 use Rattle.answers.specs.declared.Fault.{Fault}
 use Rattle.answers.specs.declared.Fault.the-variants.{TableFull, RowAbsent, StorageForbids}
+use Rattle.answers.specs.Numbers.{causeNumber, faultNumber}
 use Rattle.rows.specs.declared.Table.{Table}
 use Rattle.rows.specs.declared.Table.the-variants.{Context, Mapping, Access, View}
 use Rattle.rows.specs.Fields.{Field, faults, orElse, within}
@@ -112,6 +113,12 @@ applied ts e =
     (rowsAfter (rowIndex (e .table)) (e .operation) (rowOf (e .table) (e .bytes)) (indexOfEdit e) (rowsOf (e .table) ts))
 
 -- ---- what is answered, and the tables that stand afterwards
+
+-- document 01's number for each case
+abbrev pub editedNumber : Edited → ℕ
+editedNumber Done = 0
+editedNumber (Barred c) = causeNumber c
+editedNumber (Faulty f) = faultNumber f
 
 pub record Outcome : Type 0 where
   pub answer : Edited

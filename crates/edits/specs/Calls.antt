@@ -5,7 +5,6 @@ use Prim.Native.Nat.{ℕ}
 use Rattle.answers.specs.declared.Decision.{Decision}
 use Rattle.answers.specs.declared.Decision.the-variants.{Allowed, Refused}
 use Rattle.answers.specs.declared.Fault.the-variants.{NotSound, OutOfRange, ContextTable}
-use Rattle.answers.specs.Numbers.{causeNumber, faultNumber}
 use Rattle.rows.specs.declared.Table.{Table}
 use Rattle.rows.specs.Fields.{span}
 use Rattle.rows.specs.Rows.{keyFields}
@@ -16,6 +15,7 @@ use Rattle.rows.specs.declared.Operation.{Operation}
 use Rattle.edit_rules.specs.declared.Edited.{Edited}
 use Rattle.edit_rules.specs.declared.Edited.the-variants.{Done, Barred, Faulty}
 use Rattle.edit_rules.specs.Edits.{Outcome, Edit, Caller, editOf, legalCaller, legalEdit, judgement, isContext, rowFault, faulted, settled}
+pub use Rattle.edit_rules.specs.Edits.{editedNumber}
 use Rattle.edit_rows.specs.Promise.{Edits}
 use Rattle.edits.specs.declared.Prepared.{Prepared}
 use Rattle.edits.specs.declared.Prepared.the-variants.{Ready, Unready}
@@ -46,12 +46,6 @@ unfoldable pub principalEdit : Tables → Caller → Edit → Outcome
 principalEdit t c e = settled (principalJudged t c e) t e
 
 -- ---- the calls
-
--- document 01's number for each case
-abbrev pub editedNumber : Edited → ℕ
-editedNumber Done = 0
-editedNumber (Barred c) = causeNumber c
-editedNumber (Faulty f) = faultNumber f
 
 -- the owner's call, and a principal's
 abbrev pub OwnerEdits : Edit → List ℕ → List ℕ → Edited → Type 0

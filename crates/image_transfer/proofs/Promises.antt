@@ -31,14 +31,14 @@ use Rattle.image_transfer.proofs.Parts.{length-overlaid, paste-front, o
 -- ---- reading
 
 pub reads-refused : (image found : List ℕ) (f : Fault) → imageFault image ≡ some f → Reads image found found (Faulty f)
-reads-refused image found f e = record { answer-is = rw e; store-is = rw e; rows-are = λ d. cc }
+reads-refused image found f e = record { answer-is = rw e; number-is = rw e; store-is = rw e; rows-are = λ d. cc }
 
 pub reads-done : (image found : List ℕ) {after : List ℕ} → Octets image → length found ≡ room → imageFault image ≡ none
     → after ≡ paste found 0 image (length image) → Reads image found after Done
 reads-done image found {after} b s e p =
     let q : after ≡ overlaid image found = p ∙ paste-front image found in
     let l : length after ≡ room = ap length q ∙ length-overlaid image found (omega (arith, image-room image e)) ∙ s in
-    record { answer-is = rw e; store-is = rw e q; rows-are = λ d. held-front image b (image-accepted image e) after (drop (length image) found) q l }
+    record { answer-is = rw e; number-is = rw e; store-is = rw e q; rows-are = λ d. held-front image b (image-accepted image e) after (drop (length image) found) q l }
 
 -- ---- writing
 
@@ -64,7 +64,7 @@ module _ (w : List ℕ) (h : isSound w ≡ true) {l : Layout} (q : l ≡ layoutO
 module _ (w found : List ℕ) where
   pub writes-unsound : isSound w ≡ false → Writes (held w) found found (Unwritten NotSound)
   unfolding held
-  writes-unsound h = record { answer-is = rw h; buffer-is = rw h }
+  writes-unsound h = record { answer-is = rw h; number-is = rw h; buffer-is = rw h }
 
   module _ (b : Octets w) (h : isSound w ≡ true) where
     held-is : held w ≡ some (tablesIn w)
@@ -79,7 +79,7 @@ module _ (w found : List ℕ) where
       pub writes-short : length found < end → Writes (held w) found found (Unwritten TooShort)
       writes-short s =
           let e = lt-leb (length (imageOf (tablesIn w))) (length found) (omega (arith, length-is, a .end-is)) in
-          rw held-is (record { answer-is = rw e; buffer-is = rw e })
+          rw held-is (record { answer-is = rw e; number-is = rw e; buffer-is = rw e })
 
       -- what lies ahead of them copied, and the rows written behind it
       pub writes-done : {copied after : List ℕ} → end ≤ length found → copied ≡ paste found 0 (piece w 0 (x .rows)) (length (piece w 0 (x .rows)))
@@ -90,4 +90,4 @@ module _ (w found : List ℕ) where
           ap (λ m. take m w) (a .end-is) ∙ take-again w b (store-sound w h .rows-sound) (store-sound w h .end-in) in
           let o : after ≡ overlaid (take (endOf w x) w) found =
           p ∙ overlaid-copied w found (x .rows) (omega (arith, a .inside .rows-in)) c (endOf w x) (omega arith) (a .inside .rows-in) in
-          rw held-is (record { answer-is = rw e (ap Length (n ∙ a .end-is ∙ sym length-is)); buffer-is = rw e (o ∙ ap (λ v. overlaid v found) q) })
+          rw held-is (record { answer-is = rw e (ap Length (n ∙ a .end-is ∙ sym length-is)); number-is = rw e; buffer-is = rw e (o ∙ ap (λ v. overlaid v found) q) })

@@ -7,7 +7,7 @@ use mathlib.Core.Option.{Option, none, some}
 use Prim.Native.Nat.{ℕ, _+_, _≤_}
 use lib.Dec.{leb}
 use lib.ListN.{length, take, drop}
-use Rattle.answers.specs.Numbers.{faultNumber}
+use Rattle.answers.specs.Numbers.{faultNumber, writtenNumber}
 use Rattle.answers.specs.declared.Fault.{Fault}
 use Rattle.answers.specs.declared.Fault.the-variants.{NotSound, TooShort}
 use Rattle.answers.specs.declared.Written.{Written}
@@ -86,6 +86,7 @@ replaced (some f) image found = found
 -- the image read into the store `found`, sound or not, which is `after` then
 pub record Reads (image found after : List ℕ) (r : Loaded) : Type 0 where
   pub answer-is : r ≡ loaded (imageFault image)
+  pub number-is : loadedNumber r ≡ loadedNumber (loaded (imageFault image))
   pub store-is : after ≡ replaced (imageFault image) image found
   pub rows-are : r ≡ Done → held after ≡ some (tablesIn image)
 
@@ -104,6 +105,7 @@ bufferOf (some t) found = cond (leb (length (imageOf t)) (length found)) (overla
 -- the image of the tables that a store holds, if it is sound, written into the buffer `found`, which is `after` then
 pub record Writes (tables : Option Tables) (found after : List ℕ) (r : Written) : Type 0 where
   pub answer-is : r ≡ writtenOf tables (length found)
+  pub number-is : writtenNumber r ≡ writtenNumber (writtenOf tables (length found))
   pub buffer-is : after ≡ bufferOf tables found
 
 -- the rows of x can be written: they lie within the store, the buffer has room for them, and all ahead of them is written
