@@ -1,2 +1,3 @@
--- What the proofs of the functions share.
+-- What the proofs of the functions share, and the theorem about the call's numbers.
 mod Numbers
+pub mod Answers

@@ -1,2 +1,2 @@
-pub mod Agent
+pub mod CCall
 pub mod Answers
