@@ -1,3 +1,3 @@
--- What the proofs of the functions share, and the theorem about the call's numbers.
-mod Numbers
-pub mod Answers
+-- Laws of the call's definition that the proofs of the functions share, and the theorem about its numbers.
+pub mod CCall
+pub mod Listed

@@ -1,2 +1,2 @@
 pub mod CCall
-pub mod Answers
+pub mod Listed

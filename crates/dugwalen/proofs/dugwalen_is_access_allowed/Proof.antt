@@ -1,4 +1,4 @@
--- `dugwalen::dugwalen_is_access_allowed` meets its contract: `survey_image` gives the image's fault, or its layout, whose tables are sound (`Numbers`).
+-- `dugwalen::dugwalen_is_access_allowed` meets its contract: `survey_image` gives the image's fault, or its layout, whose tables are sound (`CCall`).
 -- Assumes nothing.
 use mathlib.Core.Path.{_≡_, sym, _∙_}
 use borrow.Author.Needs.{needs}
@@ -6,7 +6,7 @@ use Rattle.image_judge.specs.declared.Surveyed.the-variants.{Laid}
 use Rattle.image_layout.specs.Layout.{layoutOf}
 use Rattle.image.specs.Image.{imageFault}
 use Rattle.image_judge.specs.Faults.{surveyed}
-use Rattle.dugwalen.proofs.Numbers.{layout-sound, image-refused, image-laid}
+use Rattle.dugwalen.proofs.CCall.{layout-sound, image-refused, image-laid}
 use Rattle.dugwalen.proofs.dugwalen_is_access_allowed.Statement.{statement}
 use Rattle.dugwalen.proofs.dugwalen_is_access_allowed.Tie as tie
 

@@ -1,4 +1,4 @@
--- `dugwalen::on_tables` meets its contract: each test settles what the number is (`Numbers`). The variable has as many parts as its bytes have fours,
+-- `dugwalen::on_tables` meets its contract: each test settles what the number is (`CCall`). The variable has as many parts as its bytes have fours,
 -- so that `in_range` judges the very request. Assumes nothing.
 use mathlib.Core.Path.{_≡_, sym, ap, _∙_}
 use mathlib.Core.Bool.{true}
@@ -14,7 +14,7 @@ use Rattle.decision_steps.specs.Bytes.{identifier}
 use Rattle.decision_steps.proofs.Identifiers.{length-identifier}
 use Rattle.rows.specs.Tables.{Tables}
 use Rattle.dugwalen.specs.CCall.{inParts}
-use Rattle.dugwalen.proofs.Numbers.{torn, illegal, decided}
+use Rattle.dugwalen.proofs.CCall.{torn, illegal, decided}
 use Rattle.dugwalen.proofs.on_tables.Statement.{statement}
 use Rattle.dugwalen.proofs.on_tables.Tie as tie
 

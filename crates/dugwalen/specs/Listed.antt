@@ -1,4 +1,4 @@
--- The numbers that include/dugwalen.h lists, and that the C call hands back no other: a statement, proved in proofs/Answers.antt.
+-- The numbers that include/dugwalen.h lists, and that the C call hands back no other: a statement, proved in proofs/Listed.antt.
 -- Assumes nothing.
 use mathlib.Core.Path.{_≡_}
 use mathlib.Core.Bool.{Bool, true}

@@ -1,4 +1,4 @@
--- The C call hands back no number that is not listed (specs/Answers.antt). What is wrong with an image has one of four numbers, field by field,
+-- The C call hands back no number that is not listed (specs/Listed.antt). What is wrong with an image has one of four numbers, field by field,
 -- row by row, table by table; the decision has 0 or that of a cause, and a request out of range 7. Assumes nothing.
 use mathlib.Core.Path.{_≡_, refl}
 use mathlib.Core.Bool.{Bool, true, false, cond}
@@ -29,7 +29,7 @@ use Rattle.decision_steps.specs.Request.{Request, asked, legalRequest}
 use Rattle.decision_steps.specs.Decision.{decision, ifLegal}
 use Rattle.decision_steps.specs.Bytes.{identifier}
 use Rattle.dugwalen.specs.CCall.{inParts, requestNumber, refusalOr, callNumber}
-use Rattle.dugwalen.specs.Answers.{isListed, AnswersListed}
+use Rattle.dugwalen.specs.Listed.{isListed, AnswersListed}
 
 -- ---- what is wrong, if anything is, has a number of the list
 
