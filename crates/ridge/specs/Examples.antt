@@ -76,9 +76,9 @@ fromC q =
     callNumber ridgeImage (q .securityModel) (q .securityName) (q .securityLevel) (q .viewType) (q .contextName)
     (bytesOf quad (q .variableName))
 
--- what the definitions give, of a request by the call on a store and by the C call; and what document 01 says
+-- what the definitions give, of a request by the C call and by the call on a store; and what document 01 says
 abbrev pub given : Example → List ℕ
-given (answered request number) = answerNumber (answer (some ridgeTables) request) ∷ fromC request ∷ []
+given (answered request number) = fromC request ∷ answerNumber (answer (some ridgeTables) request) ∷ []
 given (isInstance t column fields oid) = instance t column (index (keyFields t) fields)
 given (isImage tables image) = imageOf tables
 
