@@ -1,2 +1,2 @@
-pub mod Agent
-pub mod Answers
+pub mod CCall
+pub mod Listed

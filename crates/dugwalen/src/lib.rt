@@ -3,11 +3,8 @@ use answers::Fault;
 use image_judge::Surveyed;
 use image_layout::Layout;
 ghost use mathlib.Core.Path.{_≡_};
-ghost use Rattle.image.specs.Image.{imageFault};
-ghost use Rattle.image_judge.specs.Faults.{SoundLayout, tablesAt, tablesIn};
-ghost use Rattle.decision_steps.specs.Request.{asked};
-ghost use Rattle.decision_steps.specs.Bytes.{identifier};
-ghost use Rattle.dugwalen.specs.Agent.{inParts, tablesNumber, agentNumber};
+ghost use Rattle.image_judge.specs.Faults.{SoundLayout, tablesAt};
+ghost use Rattle.dugwalen.specs.CCall.{requestNumber, callNumber};
 
 // The answer on tables that are sound: 7 for the request's fields and for a torn last part of the variable, then the steps.
 fn on_tables(
@@ -21,9 +18,8 @@ fn on_tables(
     variable_name: &[u8],
 ) -> u32
     requires { ⌜ SoundLayout (now image) l ⌝ }
-    ensures { λ r. ⌜ r ≡ tablesNumber (tablesAt (now (image .entry)) l) (inParts (now («variable_name» .entry)))
-        (asked «security_model» (now («security_name» .entry)) «security_level» «view_type» (now («context_name» .entry))
-        (identifier (now («variable_name» .entry)))) ⌝ }
+    ensures { λ r. ⌜ r ≡ requestNumber (tablesAt (now (image .entry)) l) «security_model» (now («security_name» .entry)) «security_level»
+        «view_type» (now («context_name» .entry)) (now («variable_name» .entry)) ⌝ }
 {
     let n = variable_name.len();
     if n % 4 != 0 {
@@ -64,9 +60,8 @@ pub extern "C" fn dugwalen_is_access_allowed(
     context_name: &[u8],
     variable_name: &[u8],
 ) -> u32
-    ensures { λ r. ⌜ r ≡ agentNumber (imageFault (now (image .entry))) (tablesIn (now (image .entry))) (inParts (now («variable_name» .entry)))
-        (asked «security_model» (now («security_name» .entry)) «security_level» «view_type» (now («context_name» .entry))
-        (identifier (now («variable_name» .entry)))) ⌝ }
+    ensures { λ r. ⌜ r ≡ callNumber (now (image .entry)) «security_model» (now («security_name» .entry)) «security_level» «view_type»
+        (now («context_name» .entry)) (now («variable_name» .entry)) ⌝ }
 {
     let surveyed = image::survey_image(image);
     match surveyed {

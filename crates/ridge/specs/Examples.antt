@@ -1,21 +1,21 @@
--- Document 01's examples P1 to P12, as a table and one theorem for the table. P1 to P9 are requests on the Ridge tables. Assumes nothing.
-use mathlib.Core.Path.{_≡_, refl}
-use mathlib.Core.List.{List, [], _∷_, map}
+-- Document 01's examples P1 to P12, as a table and one statement for the table, proved in proofs/Examples.antt. Assumes nothing.
+use mathlib.Core.Path.{_≡_}
+use mathlib.Core.List.{List, [], _∷_}
 use mathlib.Core.Option.{some}
 use Prim.Native.Nat.{ℕ}
 use Rattle.answers.specs.Numbers.{answerNumber}
-use Rattle.lists.specs.Order.{same, before, begins}
+use Rattle.big_endian.specs.BigEndian.{quad, bytesOf}
 use Rattle.rows.specs.declared.Table.{Table}
 use Rattle.rows.specs.declared.Table.the-variants.{Mapping}
 use Rattle.rows.specs.Fields.{index}
-use Rattle.rows.specs.Rows.{keyFields, rowFields}
+use Rattle.rows.specs.Rows.{keyFields}
 use Rattle.rows.specs.Tables.{Tables, noRows}
-use Rattle.decision_steps.specs.Request.{Request, asked, legalRequest}
-use Rattle.decision_steps.specs.Decision.{answer, decision, bearsContext, mapsPrincipal, contextFits, candidate, chosenAccess, viewFor, inView, maskBit}
-use Rattle.decision_steps.specs.Decision.{agrees, matches, chosenView}
+use Rattle.decision_steps.specs.Request.{Request, asked}
+use Rattle.decision_steps.specs.Decision.{answer}
 use Rattle.instance_encode.specs.Instances.{instance}
-use Rattle.image_transfer.specs.Transfer.{imageOf, rowsOf}
-use Rattle.ridge.specs.Ridge.{ridgeTables, ann, bob, cal, ridge, ridge1}
+use Rattle.image_transfer.specs.Transfer.{imageOf}
+use Rattle.dugwalen.specs.CCall.{callNumber}
+use Rattle.ridge.specs.Ridge.{ridgeTables, ridgeImage, ann, bob, cal, ridge, ridge1}
 
 pub data Example : Type 0 where
   -- a request on the Ridge tables, and the number of its answer
@@ -70,19 +70,27 @@ examples =
     ∷ isImage emptyContext (0 ∷ 1 ∷ 0 ∷ 0 ∷ 0 ∷ 0 ∷ 0 ∷ 0 ∷ 0 ∷ 1 ∷ 0 ∷ [])
     ∷ []
 
--- what the definitions give, and what document 01 says
+-- the C call's number of the Ridge image and the request, its variable as big-endian 4-byte parts
+abbrev pub fromC : Request → ℕ
+fromC q =
+    callNumber ridgeImage (q .securityModel) (q .securityName) (q .securityLevel) (q .viewType) (q .contextName)
+    (bytesOf quad (q .variableName))
+
+-- what the definitions give, of a request by the C call and by the call on a store; and what document 01 says
 abbrev pub given : Example → List ℕ
-given (answered request number) = answerNumber (answer (some ridgeTables) request) ∷ []
+given (answered request number) = fromC request ∷ answerNumber (answer (some ridgeTables) request) ∷ []
 given (isInstance t column fields oid) = instance t column (index (keyFields t) fields)
 given (isImage tables image) = imageOf tables
 
 abbrev pub expected : Example → List ℕ
-expected (answered request number) = number ∷ []
+expected (answered request number) = number ∷ number ∷ []
 expected (isInstance t column fields oid) = oid
 expected (isImage tables image) = image
 
 -- they are the same in each example
-pub examples-hold : map given examples ≡ map expected examples
-unfolding decision legalRequest bearsContext mapsPrincipal contextFits candidate chosenAccess viewFor inView maskBit agrees matches chosenView same
-    before begins keyFields rowFields imageOf rowsOf
-examples-hold = refl
+abbrev pub EachHolds : List Example → Type 0
+EachHolds [] = Unit {0}
+EachHolds (e ∷ es) = (given e ≡ expected e) × EachHolds es
+
+abbrev pub ExamplesHold : Type 0
+ExamplesHold = EachHolds examples

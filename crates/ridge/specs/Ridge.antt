@@ -1,16 +1,13 @@
 -- Document 01's Ridge tables, as rows and as the bytes of their image. Row B's write and notify views are empty, and every storage is 3.
 -- Assumes nothing.
-use mathlib.Core.Path.{_≡_, refl}
-use mathlib.Core.List.{List, [], _∷_, map}
+use mathlib.Core.Path.{_≡_}
+use mathlib.Core.List.{List, [], _∷_}
 use mathlib.Core.Option.{none}
 use Prim.Native.Nat.{ℕ}
-use Rattle.rows.specs.Fields.{sequenceFault, integerFault, faults, span}
-use Rattle.rows.specs.Rows.{ContextRow, MappingRow, AccessRow, ViewRow, keyFields, rowFields}
+use Rattle.rows.specs.Rows.{AccessRow}
 use Rattle.rows.specs.Tables.{Tables}
-use Rattle.lists.specs.Order.{same, before}
-use Rattle.image_layout.specs.Layout.{laidOut, layoutOf}
-use Rattle.image.specs.Image.{imageFault, sizedFault}
-use Rattle.image_judge.specs.Faults.{rowsFault, tableFault, tablesAt, tablesIn}
+use Rattle.image_judge.specs.Faults.{tablesIn}
+use Rattle.image.specs.Image.{imageFault}
 
 -- ---- names
 
@@ -103,7 +100,7 @@ ridgeTables = record {
       ∷ [];
 }
 
--- ---- bytes: the image that ships with this program
+-- ---- bytes: the image that ships, examples/ridge/tables.bin
 
 abbrev pub ridgeImage : List ℕ
 ridgeImage =
@@ -119,11 +116,7 @@ ridgeImage =
     ∷ 0 ∷ 0 ∷ 0 ∷ 1 ∷ 0 ∷ 0 ∷ 0 ∷ 3 ∷ 0 ∷ 0 ∷ 0 ∷ 6 ∷ 0 ∷ 0 ∷ 0 ∷ 1 ∷ 0 ∷ 0 ∷ 0 ∷ 2 ∷ 0 ∷ 0 ∷ 0 ∷ 1 ∷ 0 ∷ 0
     ∷ 0 ∷ 2 ∷ 0 ∷ 0 ∷ 0 ∷ 2 ∷ 0 ∷ 0 ∷ 0 ∷ 1 ∷ 0 ∷ 0 ∷ 0 ∷ 7 ∷ 0 ∷ 0 ∷ 0 ∷ 0 ∷ 2 ∷ 255 ∷ 192 ∷ 2 ∷ 3 ∷ 1 ∷ []
 
--- nothing is wrong with it, and it holds those tables
-pub ridge-sound : imageFault ridgeImage ≡ none
-unfolding imageFault sizedFault rowsFault tableFault faults sequenceFault integerFault laidOut layoutOf keyFields rowFields before same
-ridge-sound = refl
-
-pub ridge-holds : tablesIn ridgeImage ≡ ridgeTables
-unfolding tablesAt laidOut layoutOf rowFields
-ridge-holds = refl
+-- nothing is wrong with it, and it holds those tables (proved in proofs/Ridge.antt)
+pub record RidgeImageHolds : Type 0 where
+  pub sound : imageFault ridgeImage ≡ none
+  pub tables-are : tablesIn ridgeImage ≡ ridgeTables

@@ -1,6 +1,6 @@
 -- A row without fault is no longer than its fields allow: a sequence has at most its largest count of parts, a number its width.
--- By table that is 33, 72, 173 and 310 bytes, of a key 290 at most, and with every table full an image has 46,456. Assumes nothing.
-use mathlib.Core.Path.{_≡_, refl}
+-- By table that is 33, 72, 173 and 310 bytes, and of a key 290 at most. Assumes nothing.
+use mathlib.Core.Path.{_≡_}
 use mathlib.Core.List.{List, [], _∷_}
 use mathlib.Core.Option.{none}
 use Prim.Native.Nat.{ℕ, zero, suc, _+_, _*_, _≤_}
@@ -11,7 +11,7 @@ use Rattle.rows.specs.declared.Table.{Table}
 use Rattle.rows.specs.declared.Table.the-variants.{Context, Mapping, Access, View}
 use Rattle.big_endian.specs.BigEndian.{size}
 use Rattle.rows.specs.Fields.{Field, sequence, integer, fault, taken, faults}
-use Rattle.rows.specs.Rows.{keyFields, rowFields, limit, rowMax, keyMax}
+use Rattle.rows.specs.Rows.{keyFields, rowFields, rowMax, keyMax}
 use Rattle.rows.proofs.Sound.{within-most, sequence-range, field-room, faults-first, faults-rest, faults-end}
 
 abbrev pub longestField : Field → ℕ
@@ -75,7 +75,3 @@ pub longest-take : (n : ℕ) (ks : List Field) → longest (take n ks) ≤ longe
 longest-take zero ks = omega arith
 longest-take (suc n) [] = omega arith
 longest-take (suc n) (k ∷ ks) = omega (arith, longest-take n ks)
-
-pub largest-image : 8 + 2 * (limit Context + limit Mapping + limit Access + limit View)
-    + limit Context * longestRow Context + limit Mapping * longestRow Mapping + limit Access * longestRow Access + limit View * longestRow View ≡ 46456
-largest-image = refl

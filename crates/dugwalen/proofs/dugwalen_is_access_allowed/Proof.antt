@@ -1,29 +1,17 @@
--- `dugwalen::dugwalen_is_access_allowed` meets its contract: `survey_image` gives the image's fault, or its layout, whose tables are sound (`Numbers`).
+-- `dugwalen::dugwalen_is_access_allowed` meets its contract: `survey_image` gives the image's fault, or its layout, whose tables are sound (`CCall`).
 -- Assumes nothing.
 use mathlib.Core.Path.{_≡_, sym, _∙_}
-use mathlib.Core.Bool.{Bool}
 use borrow.Author.Needs.{needs}
 use Rattle.image_judge.specs.declared.Surveyed.the-variants.{Laid}
 use Rattle.image_layout.specs.Layout.{layoutOf}
 use Rattle.image.specs.Image.{imageFault}
 use Rattle.image_judge.specs.Faults.{surveyed}
-use Rattle.decision_steps.specs.Request.{Request, asked}
-use Rattle.decision_steps.specs.Bytes.{identifier}
-use Rattle.dugwalen.specs.Agent.{inParts}
-use Rattle.dugwalen.proofs.Numbers.{layout-sound, image-refused, image-laid}
+use Rattle.dugwalen.proofs.CCall.{layout-sound, image-refused, image-laid}
 use Rattle.dugwalen.proofs.dugwalen_is_access_allowed.Statement.{statement}
 use Rattle.dugwalen.proofs.dugwalen_is_access_allowed.Tie as tie
 
 abbrev start : tie.After-survey-image → tie.Start
 start f = f .before .before .before .before .before
-
-abbrev request : tie.Start → Request
-request s =
-    let a = s .args in
-    asked (a .security-model) (a .security-name .now) (a .security-level) (a .view-type) (a .context-name .now) (identifier (a .variable-name .now))
-
-abbrev whole : tie.Start → Bool
-whole s = inParts (s .args .variable-name .now)
 
 -- the image's layout
 laid : (c : tie.After-known-told2) → let f = c .before .before .before in let w = start f .args .image .now in
@@ -37,13 +25,17 @@ returns : tie.Need-returns
 returns c =
     let g = c .before .before in
     let f = g .before .before in
-    let s = start f in
-    c .fault-number .ensures ∙ image-refused (s .args .image .now) (whole s) (request s) (sym (g .surveyed .given .1) ∙ f .survey-image .ensures)
+    let a = start f .args in
+    c .fault-number .ensures
+    ∙ image-refused (a .security-model) (a .security-name .now) (a .security-level) (a .view-type) (a .context-name .now) (a .variable-name .now)
+    (a .image .now) (sym (g .surveyed .given .1) ∙ f .survey-image .ensures)
 
 returns-2 : tie.Need-returns-2
 returns-2 c =
-    let s = start (c .before .before .before .before) in
-    c .on-tables .ensures ∙ image-laid (s .args .image .now) (whole s) (request s) (laid (c .before))
+    let a = start (c .before .before .before .before) .args in
+    c .on-tables .ensures
+    ∙ image-laid (a .security-model) (a .security-name .now) (a .security-level) (a .view-type) (a .context-name .now) (a .variable-name .now)
+    (a .image .now) (laid (c .before))
 
 pub dugwalen-is-access-allowed-spec : {M : Type 1} → statement M
 dugwalen-is-access-allowed-spec =

@@ -1,8 +1,8 @@
--- `dugwalen::on_tables` meets its contract: each test settles what the number is (`Numbers`). The variable has as many parts as its bytes have fours,
+-- `dugwalen::on_tables` meets its contract: each test settles what the number is (`CCall`). The variable has as many parts as its bytes have fours,
 -- so that `in_range` judges the very request. Assumes nothing.
 use mathlib.Core.Path.{_≡_, sym, ap, _∙_}
-use mathlib.Core.Bool.{Bool}
-use Prim.Native.Nat.{ℕ, _%_}
+use mathlib.Core.Bool.{true}
+use Prim.Native.Nat.{_%_}
 use native.Mathlib.Omega.{arith}
 use lib.ListN.{length}
 use borrow.Author.Needs.{needs}
@@ -13,8 +13,8 @@ use Rattle.decision_steps.specs.Request.{Request, asked, inRange, legalRequest}
 use Rattle.decision_steps.specs.Bytes.{identifier}
 use Rattle.decision_steps.proofs.Identifiers.{length-identifier}
 use Rattle.rows.specs.Tables.{Tables}
-use Rattle.dugwalen.specs.Agent.{inParts}
-use Rattle.dugwalen.proofs.Numbers.{torn, illegal, decided}
+use Rattle.dugwalen.specs.CCall.{inParts}
+use Rattle.dugwalen.proofs.CCall.{torn, illegal, decided}
 use Rattle.dugwalen.proofs.on_tables.Statement.{statement}
 use Rattle.dugwalen.proofs.on_tables.Tie as tie
 
@@ -29,8 +29,9 @@ request s =
     let a = s .args in
     asked (a .security-model) (a .security-name .now) (a .security-level) (a .view-type) (a .context-name .now) (identifier (a .variable-name .now))
 
-abbrev whole : tie.Start → Bool
-whole s = inParts (s .args .variable-name .now)
+-- no torn last part
+whole : (c : tie.After-in-range) → inParts (start (c .before .before) .args .variable-name .now) ≡ true
+whole c = eq-eqb (length (start (c .before .before) .args .variable-name .now) % 4) 0 (omega arith)
 
 -- what `in_range` judges
 legal : (c : tie.After-in-range) → c .in-range .result ≡ legalRequest (request (start (c .before .before)))
@@ -44,25 +45,30 @@ legal c =
 returns : tie.Need-returns
 returns c =
     let s = start (c .before .before) in
+    let a = s .args in
     c .fault-number .ensures
-    ∙ torn (tables s) (request s) (whole s) (ne-eqb (length (s .args .variable-name .now) % 4) 0 (λ e. omega arith))
+    ∙ torn (a .security-model) (a .security-name .now) (a .security-level) (a .view-type) (a .context-name .now) (a .variable-name .now)
+    (tables s) (ne-eqb (length (a .variable-name .now) % 4) 0 (λ e. omega arith))
 
 returns-2 : tie.Need-returns-2
 returns-2 c =
     let r = c .before .before in
     let s = start (r .before .before) in
+    let a = s .args in
     c .fault-number2 .ensures
-    ∙ illegal (tables s) (request s) (whole s) (sym (legal r) ∙ not-true (r .in-range .result) (c .before .if2 .taken))
+    ∙ illegal (a .security-model) (a .security-name .now) (a .security-level) (a .view-type) (a .context-name .now) (a .variable-name .now)
+    (tables s) (whole r) (sym (legal r) ∙ not-true (r .in-range .result) (c .before .if2 .taken))
 
 returns-3 : tie.Need-returns-3
 returns-3 c =
     let e = c .before .before in
     let r = e .before in
     let s = start (r .before .before) in
+    let a = s .args in
     c .decision-number .ensures
     ∙ ap decisionNumber (c .before .decide .ensures)
-    ∙ decided (tables s) (request s) (whole s) (eq-eqb (length (s .args .variable-name .now) % 4) 0 (omega arith))
-    (sym (legal r) ∙ not-false (r .in-range .result) (e .if2 .left))
+    ∙ decided (a .security-model) (a .security-name .now) (a .security-level) (a .view-type) (a .context-name .now) (a .variable-name .now)
+    (tables s) (whole r) (sym (legal r) ∙ not-false (r .in-range .result) (e .if2 .left))
 
 pub on-tables-spec : {M : Type 1} → statement M
 on-tables-spec =

@@ -1,7 +1,7 @@
--- The numbers that the C call can hand back are those that include/dugwalen.h lists, whatever the image and the request are.
--- What is wrong with an image has one of four numbers, field by field, row by row, table by table. Assumes nothing.
+-- The C call hands back no number that is not listed (specs/Listed.antt). What is wrong with an image has one of four numbers, field by field,
+-- row by row, table by table; the decision has 0 or that of a cause, and a request out of range 7. Assumes nothing.
 use mathlib.Core.Path.{_≡_, refl}
-use mathlib.Core.Bool.{Bool, true, false, cond, _&&_}
+use mathlib.Core.Bool.{Bool, true, false, cond}
 use mathlib.Core.List.{List, [], _∷_}
 use mathlib.Core.Option.{Option, none, some}
 use Prim.Native.Nat.{ℕ, _+_, _*_}
@@ -13,7 +13,7 @@ use Rattle.answers.specs.declared.Decision.the-variants.{Allowed, Refused}
 use Rattle.answers.specs.declared.Fault.{Fault}
 use Rattle.answers.specs.declared.Fault.the-variants.{OutOfRange, TableFull, Torn, NotAscending}
 use Rattle.answers.specs.Numbers.{decisionNumber, faultNumber, answerNumber}
-use Rattle.lists.specs.Lists.{any, OnSome}
+use Rattle.lists.specs.Lists.{OnSome}
 use Rattle.lists.specs.Order.{before}
 use Rattle.rows.specs.declared.Table.{Table}
 use Rattle.rows.specs.declared.Table.the-variants.{Context, Mapping, Access}
@@ -25,15 +25,11 @@ use Rattle.image_layout.specs.declared.Layout.{Layout}
 use Rattle.image_layout.specs.Layout.{rowsIn, laidOut, imageLength, withinLimits, header}
 use Rattle.image_judge.specs.Faults.{tableFault, rowsFault, tablesIn}
 use Rattle.image.specs.Image.{sizedFault, imageFault}
-use Rattle.decision_steps.specs.Request.{Request, legalRequest}
+use Rattle.decision_steps.specs.Request.{Request, asked, legalRequest}
 use Rattle.decision_steps.specs.Decision.{decision, ifLegal}
-use Rattle.dugwalen.specs.Agent.{tablesNumber, agentNumber}
-
-abbrev pub listed : List ℕ
-listed = 0 ∷ 1 ∷ 2 ∷ 3 ∷ 4 ∷ 5 ∷ 7 ∷ 9 ∷ 14 ∷ 15 ∷ []
-
-abbrev pub isListed : ℕ → Bool
-isListed n = any (eqb n) listed
+use Rattle.decision_steps.specs.Bytes.{identifier}
+use Rattle.dugwalen.specs.CCall.{inParts, requestNumber, refusalOr, callNumber}
+use Rattle.dugwalen.specs.Listed.{isListed, AnswersListed}
 
 -- ---- what is wrong, if anything is, has a number of the list
 
@@ -104,14 +100,23 @@ decision-listed (Refused NoAccessEntry) = refl
 decision-listed (Refused NoSuchView) = refl
 decision-listed (Refused NotInView) = refl
 
-legal-listed : (legal : Bool) (t : Tables) (q : Request) → isListed (answerNumber (ifLegal legal t q)) ≡ true
-legal-listed true t q = decision-listed (decision t q)
-legal-listed false t q = refl
+answer-listed : (legal : Bool) (t : Tables) (q : Request) → isListed (answerNumber (ifLegal legal t q)) ≡ true
+answer-listed true t q = decision-listed (decision t q)
+answer-listed false t q = refl
 
-number-listed : (o : Option Fault) → Fine o → (t : Tables) (whole : Bool) (q : Request) → isListed (agentNumber o t whole q) ≡ true
-unfolding tablesNumber
-number-listed none x t whole q = legal-listed (whole && legalRequest q) t q
-number-listed (some f) x t whole q = x .is-listed
+cond-listed : (b : Bool) (m n : ℕ) → isListed m ≡ true → isListed n ≡ true → isListed (cond b m n) ≡ true
+cond-listed true m n x y = x
+cond-listed false m n x y = y
 
-pub agent-listed : (image : List ℕ) (whole : Bool) (q : Request) → isListed (agentNumber (imageFault image) (tablesIn image) whole q) ≡ true
-agent-listed image whole q = number-listed (imageFault image) (fine-image image) (tablesIn image) whole q
+-- ---- so has the call
+
+refusal-listed : (o : Option Fault) (n : ℕ) → Fine o → isListed n ≡ true → isListed (refusalOr o n) ≡ true
+refusal-listed none n x y = y
+refusal-listed (some f) n x y = x .is-listed
+
+pub answers-listed : AnswersListed
+unfolding callNumber requestNumber
+answers-listed image model name level view context variable =
+    let q = asked model name level view context (identifier variable) in
+    refusal-listed (imageFault image) _ (fine-image image)
+    (cond-listed (inParts variable) _ _ (answer-listed (legalRequest q) (tablesIn image) q) refl)

@@ -1,0 +1,3 @@
+-- The theorems of specs/.
+pub mod Ridge
+pub mod Examples
