@@ -2,7 +2,7 @@
 use mathlib.Core.Path.{_≡_}
 use mathlib.Core.List.{List, [], _∷_, _++_}
 use mathlib.Core.Option.{Option, none, some}
-use Prim.Native.Nat.{ℕ, _≤_}
+use Prim.Native.Nat.{ℕ, _+_, _*_, _≤_}
 use lib.ListN.{length, take}
 use Rattle.answers.specs.declared.Fault.{Fault}
 use Rattle.answers.specs.declared.Fault.the-variants.{NotSound, NotAnInstance}
@@ -12,6 +12,7 @@ use Rattle.rows.specs.Tables.{Tables}
 use Rattle.rows.specs.Fields.{values}
 use Rattle.rows.specs.Rows.{keyFields}
 use Rattle.instance_decode.specs.Decoding.{Reading}
+use Rattle.image.specs.Store.{room}
 use Rattle.image_transfer.specs.Transfer.{imageOf}
 use Rattle.text_values.specs.Texts.{decimalText, hexText, dottedText}
 use Rattle.text_rows.specs.RowText.{keyText}
@@ -51,9 +52,9 @@ abbrev pub imageTextOf : Option Tables → List ℕ
 imageTextOf none = faultText NotSound
 imageTextOf (some t) = imageText ++ hexText (imageOf t)
 
--- room for the longest answer, an image's text of 6 + 2 * 46,456
+-- room for the longest answer: `image `, and two digits to each octet of the largest image
 abbrev pub answerRoom : ℕ
-answerRoom = 95000
+answerRoom = 6 + 2 * room
 
 abbrev pub Room : List ℕ → Type 0
 Room out = answerRoom ≤ length out

@@ -17,6 +17,10 @@ ghost use Rattle.call_answers.specs.Answers.{parts, faultText, encodedTe
 
 // Sub-identifiers enough for every instance: the longest has 110.
 const PARTS: usize = 128;
+
+// Room for the longest answer: `image `, and two digits to each octet of the largest image.
+pub const ANSWER_ROOM: usize = 6 + 2 * ROOM;
+
 // Tells a number.
 pub fn tell_number(out: &mut [u8], n: u32) -> usize
     requires { ⌜ Room (now out) ⌝ }

@@ -14,7 +14,7 @@ use Rattle.text_values.specs.Texts.{decimalText, Puts}
 use Rattle.lists.specs.Laid.{laid}
 use Rattle.text_values.proofs.Digits.{length-decimal}
 use Rattle.text_values.proofs.Puts.{both, kept}
-use Rattle.call_words.specs.Calls.{Call}
+use Rattle.call_words.specs.Calls.{Asked}
 use Rattle.call_answers.specs.Answers.{answerRoom, faultText, Shows}
 use Rattle.call_answers.proofs.Shown.{shown}
 use Rattle.call_lines.specs.Plays.{Plays, lineRoom, faultRoom, lineText, ShowsLine}
@@ -55,7 +55,7 @@ module _ (number : ℕ) {out : List ℕ} (room : lineRoom ≤ length out) {w₁ 
           let g = length-drop from w₂ in
           omega (arith, many, size, front-short)
 
-      pub shows-line : {call : Option Call} {found after : List ℕ} → Plays call found after (take n q) → {w₄ : List ℕ} {r : ℕ}
+      pub shows-line : {call : Option Asked} {found after : List ℕ} → Plays call found after (take n q) → {w₄ : List ℕ} {r : ℕ}
           → Puts (10 ∷ []) (from + n) (back from (from + answerRoom - from) q w₂) w₄ r → ShowsLine call number found after w₄ r
       shows-line c {w₄} {r} l =
           let v : List ℕ = back from (from + answerRoom - from) q w₂ in

@@ -1,106 +1,86 @@
 // The call that a line says, played on a store, and its answer told. The program `trycalls` plays lists of calls so.
 use answers::Fault;
-use call_words::By;
-use call_words::Said;
-use edit_rules::Edited;
-use request_words::Fields;
-use rows::Operation;
-use rows::Table;
+use call_answers::ANSWER_ROOM;
+use call_words::Verb;
+use line_fields::LINE_ROOM;
+use line_fields::MOST_FIELDS;
+use line_fields::Slot;
 ghost use mathlib.Core.Path.{_≡_};
 ghost use Prim.Native.Nat.{_≤_};
 ghost use lib.ListN.{length};
-ghost use Rattle.answers.specs.Numbers.{answerNumber};
-ghost use Rattle.image.specs.Store.{held};
-ghost use Rattle.decision_steps.specs.Decision.{answer};
-ghost use Rattle.call_words.specs.Calls.{lineCall};
-ghost use Rattle.call_words.specs.Reading.{requestIn, RequestInside, saidCall, Inside};
-ghost use Rattle.edit_rules.specs.Edits.{editOf};
+ghost use Rattle.line_fields.specs.Slots.{Fit};
+ghost use Rattle.call_words.specs.declared.Verb.the-variants.{Encode};
+ghost use Rattle.call_words.specs.Calls.{kindsOf, lineSaid};
+ghost use Rattle.call_words.specs.Reading.{askedIn};
 ghost use Rattle.call_answers.specs.Answers.{faultText, Room, Shows};
-ghost use Rattle.call_lines.specs.Plays.{EditsBy, lineRoom, faultRoom, lineText, ShowsPlay, ShowsLine};
+ghost use Rattle.call_lines.specs.Plays.{ShowsInstance, lineRoom, faultRoom, lineText, ShowsPlay, ShowsLine};
 
-// Octets or numbers that a word of a line says at most.
-const WORD_ROOM: usize = 1024;
-// Octets of the longest answer, an image's text.
-const ANSWER_ROOM: usize = 95000;
+// Room for what is told of a line: its number of 20 digits at most, a space, the answer, a newline.
+pub const TOLD_ROOM: usize = ANSWER_ROOM + 22;
+
+// Room for what is told of a refused image.
+pub const FAULT_ROOM: usize = 64;
 
 // ---- calls
 
-// The number that a request is answered.
-fn decide(store: &[u8], f: Fields, name: &[u8], context: &[u8], variable: &[u32]) -> u32
-    requires { ⌜ RequestInside f (now name) (now context) (now variable) ⌝ }
-    ensures { λ r. ⌜ r ≡ answerNumber (answer (held (now (store .entry))) (requestIn f (now (name .entry)) (now (context .entry)) (now (variable .entry)))) ⌝ }
+// Tells the instance of the column and the key that slots hold.
+fn encode(slots: [Slot; MOST_FIELDS], bytes: &[u8], parts: &[u32], out: &mut [u8]) -> usize
+    requires { ⌜ Fit slots (kindsOf Encode) (now bytes) (now parts) ⌝ }
+    requires { ⌜ Room (now out) ⌝ }
+    ensures { λ r. ⌜ ShowsInstance slots (now (bytes .entry)) (now (parts .entry)) (now (out .exit)) r ⌝ }
 {
-    let n = f.name;
-    let c = f.context;
-    let v = f.variable;
-    let decided = decision::is_access_allowed(
-        store,
-        f.model,
-        &name[0..n],
-        f.level,
-        f.kind,
-        &context[0..c],
-        &variable[0..v],
-    );
-    answers::answer_number(decided)
+    let key = slots[1];
+    let t = key.table;
+    let column = line_fields::number_in(parts, slots[0]);
+    call_answers::tell_encoded(t, column, line_fields::octets_in(bytes, key), out)
 }
 
-// Puts a row or removes a key's, for the owner or for a principal of that name.
-fn edit(store: &mut [u8], by: By, name: &[u8], s: Operation, t: Table, bytes: &[u8]) -> Edited
-    ensures { λ r. ⌜ EditsBy by (now (name .entry)) (editOf s t (now (bytes .entry))) (now (store .entry)) (now (store .exit)) r ⌝ }
-{
-    match by {
-        By::Owner => edits::owner_edit(store, s, t, bytes),
-        By::Principal(model, level) => edits::principal_edit(
-            store,
-            model,
-            name,
-            level,
-            s,
-            t,
-            bytes,
-        ),
-    }
-}
-
+// Plays what slots hold on a store.
 fn play_call(
     store: &mut [u8],
-    said: Said,
-    name: &[u8],
+    verb: Verb,
+    slots: [Slot; MOST_FIELDS],
     bytes: &[u8],
-    variable: &[u32],
+    parts: &[u32],
     out: &mut [u8],
 ) -> usize
-    requires { ⌜ Inside said (now name) (now bytes) (now variable) × Room (now out) ⌝ }
-    ensures { λ r. ⌜ ShowsPlay (saidCall said (now (name .entry)) (now (bytes .entry)) (now (variable .entry))) (now (store .entry)) (now (store .exit))
-        (now (out .exit)) r ⌝ }
+    requires { ⌜ Fit slots (kindsOf verb) (now bytes) (now parts) ⌝ }
+    requires { ⌜ Room (now out) ⌝ }
+    ensures { λ r. ⌜ ShowsPlay (askedIn verb slots (now (bytes .entry)) (now (parts .entry))) (now (store .entry)) (now (store .exit)) (now (out .exit)) r ⌝ }
 {
-    match said {
-        Said::Decide(f) => {
-            let decided = decide(store, f, name, bytes, variable);
-            call_answers::tell_number(out, decided)
+    match verb {
+        Verb::Decide => {
+            let number = call_words::decide(store, slots, bytes, parts);
+            call_answers::tell_number(out, number)
         }
-        Said::Edit(by, n, s, t, k) => {
-            let edited = edit(store, by, &name[0..n], s, t, &bytes[0..k]);
-            call_answers::tell_number(out, edits::edited_number(edited))
+        Verb::Owner => {
+            let number = call_words::edit_as_owner(store, slots, bytes, parts);
+            call_answers::tell_number(out, number)
         }
-        Said::Encode(t, column, n) => call_answers::tell_encoded(t, column, &bytes[0..n], out),
-        Said::Decode(n) => call_answers::tell_decoded(&variable[0..n], out),
-        Said::Image => call_answers::tell_image(store, out),
-        Said::Nothing => call_answers::tell_fault(out, Fault::OutOfRange),
+        Verb::Principal => {
+            let number = call_words::edit_as_principal(store, slots, bytes, parts);
+            call_answers::tell_number(out, number)
+        }
+        Verb::Encode => encode(slots, bytes, parts, out),
+        Verb::Decode => {
+            call_answers::tell_decoded(line_fields::identifier_in(parts, slots[0]), out)
+        }
+        Verb::Image => call_answers::tell_image(store, out),
+        Verb::Unknown => call_answers::tell_fault(out, Fault::OutOfRange),
     }
 }
 
 // Plays the call of a line on a store: the answer's text at the front of `out`, and its length.
 pub fn play(store: &mut [u8], line: &[u8], out: &mut [u8]) -> usize
     requires { ⌜ Room (now out) ⌝ }
-    ensures { λ r. ⌜ ShowsPlay (lineCall (now (line .entry))) (now (store .entry)) (now (store .exit)) (now (out .exit)) r ⌝ }
+    ensures { λ r. ⌜ ShowsPlay (lineSaid (now (line .entry))) (now (store .entry)) (now (store .exit)) (now (out .exit)) r ⌝ }
 {
-    let mut name = [0u8; WORD_ROOM];
-    let mut bytes = [0u8; WORD_ROOM];
-    let mut variable = [0u32; WORD_ROOM];
-    let said = call_words::read_call(line, &mut name, &mut bytes, &mut variable);
-    play_call(store, said, &name, &bytes, &variable, out)
+    let mut bytes = [0u8; LINE_ROOM];
+    let mut parts = [0u32; LINE_ROOM];
+    let read = call_words::read_call(line, &mut bytes, &mut parts);
+    let verb = read.verb;
+    let slots = read.slots;
+    play_call(store, verb, slots, &bytes, &parts, out)
 }
 
 // ---- what is printed
@@ -108,7 +88,7 @@ pub fn play(store: &mut [u8], line: &[u8], out: &mut [u8]) -> usize
 // For the line of that number: the number, the answer, a newline.
 pub fn answer_line(store: &mut [u8], number: u64, line: &[u8], out: &mut [u8]) -> usize
     requires { ⌜ lineRoom ≤ length (now out) ⌝ }
-    ensures { λ r. ⌜ ShowsLine (lineCall (now (line .entry))) number (now (store .entry)) (now (store .exit)) (now (out .exit)) r ⌝ }
+    ensures { λ r. ⌜ ShowsLine (lineSaid (now (line .entry))) number (now (store .entry)) (now (store .exit)) (now (out .exit)) r ⌝ }
 {
     let space = text_values::put_decimal(out, 0, number);
     let from = text_values::put_octet(out, space, b' ');

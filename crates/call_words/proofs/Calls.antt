@@ -1,198 +1,107 @@
--- Laws of the calls read: each verb's words, read in order, give the call that its definition gives of them; a word that says nothing
--- gives none. Assumes nothing.
+-- Laws of what a line asks for: its word and the fields behind it, and what the slots that hold them say. Assumes nothing.
 use mathlib.Core.Path.{_≡_, refl, sym, ap, _∙_}
 use mathlib.Core.List.{List, [], _∷_}
-use mathlib.Core.Option.{Option, none, some, Option·map}
-use Prim.Native.Nat.{ℕ, _+_, _-_, _*_, _≤_, _<_}
+use mathlib.Core.Option.{Option, none, some, bind}
+use Prim.Native.Nat.{ℕ, _+_, _≤_, _<_}
 use native.Mathlib.Omega.{arith}
-use lib.Dec.{leb}
-use lib.ListN.{length, take, drop, length-take, length-drop}
-use lib.Seq.{take-all}
-use borrow.Author.Tests.{lt-leb, le-leb}
+use lib.ListN.{length, getD}
+use borrow.Author.Tests.{le-leb, lt-leb}
 use Rattle.rows.specs.declared.Table.{Table}
-use Rattle.decision_steps.specs.Request.{Request}
-use Rattle.lists.specs.Order.{same}
-use Rattle.text_words.specs.Words.{between, words, split, decimal, decimals, hexOctets, dotted, run, Fills, wordsAfter}
-use Rattle.text_words.specs.declared.Filled.{Filled}
-use Rattle.text_words.specs.declared.Filled.the-variants.{Upto, Malformed}
-use Rattle.request_words.specs.declared.Fields.{Fields}
-use Rattle.request_words.specs.declared.Parsed.{Parsed}
-use Rattle.request_words.specs.Requests.{longest, request, parsed, Parses}
-use Rattle.request_words.proofs.Requests.{said-inside}
-use Rattle.text_words.proofs.NextWord.{none-behind, some-behind, word-cut, word-over}
-use Rattle.edit_rules.specs.Edits.{callerOf}
-use Rattle.call_words.specs.declared.Span.{Span}
 use Rattle.rows.specs.declared.Operation.{Operation}
-use Rattle.rows.specs.declared.Operation.the-variants.{Put, Remove}
-use Rattle.call_words.specs.declared.Entered.{Entered}
-use Rattle.call_words.specs.declared.By.{By}
-use Rattle.call_words.specs.declared.Said.{Said}
+use Rattle.edit_rules.specs.Edits.{Edit, editOf, callerOf}
+use Rattle.edit_rules.specs.declared.Edited.{Edited}
+use Rattle.edits.specs.Calls.{OwnerEdits, PrincipalEdits}
+use Rattle.edits.specs.Does.{ask, owner, by}
+use Rattle.text_words.specs.Words.{longest, between, words, wordsFrom}
+use Rattle.text_words.proofs.WordsFrom.{WordAt, from-start}
+use Rattle.line_fields.specs.declared.Kind.{Kind}
+use Rattle.line_fields.specs.declared.Slot.{Slot}
+use Rattle.line_fields.specs.Kinds.{Value, valueAt, partsAt, numberAt, editAt, valuesSaid}
+use Rattle.line_fields.specs.Slots.{side, inParts, kindIn, slotIn, partIn, numberIn, valueIn, Holds, Fit, Whole}
+use Rattle.line_fields.proofs.RequestSlots.{request-held}
+use Rattle.call_words.specs.declared.Verb.{Verb}
 use Rattle.call_words.specs.declared.Verb.the-variants.{Decide, Owner, Principal, Encode, Decode, Image, Unknown}
-use Rattle.call_words.specs.Calls.{Call, decides, owner, principal, encodes, decodes, images, Entry, edit, tableEntry, editEntry, edited, leveled}
-use Rattle.call_words.specs.Calls.{modeled, principalOf, encoded, encodeOf, decodeOf, imageOf, verbNamed, verbCall, callOf, lineCall}
-use Rattle.call_words.specs.Reading.{firstWord, restWords, Spans, Leads, Silent, Enters, byCall, saidCall, ReadsCall, ReadsEdit}
-use Rattle.call_words.proofs.Heads.{filled-is, filled-in, filled-bad, headed-none, headed-some, no-decimal, no-octets}
-use Rattle.call_words.proofs.Entries.{entered-none, entered-is, entered-in}
+use Rattle.call_words.specs.declared.Read.{Read}
+use Rattle.call_words.specs.Calls.{kindsOf, Asked, calls, encodes, decodes, meaning, verbNamed, verbSaid, wordsSaid, lineSaid}
+use Rattle.call_words.specs.Reading.{editIn, askedIn, ReadsCall}
 
-pub reads-nothing : (name bytes variable : List ℕ) {call : Option Call} → call ≡ none → ReadsCall Said.Nothing name bytes variable call
-reads-nothing name bytes variable q = record { is = sym q; inside = tt }
+-- no word has more fields than slots
+pub kinds-few : (v : Verb) → length (kindsOf v) ≤ 8
+kinds-few Decide = omega arith
+kinds-few Owner = omega arith
+kinds-few Principal = omega arith
+kinds-few Encode = omega arith
+kinds-few Decode = omega arith
+kinds-few Image = omega arith
+kinds-few Unknown = omega arith
 
--- ---- a request
+-- ---- a line read
 
-module _ (e : ℕ) (line : List ℕ) where
-  pub decide-missing : length line ≤ e → verbCall Decide (wordsAfter e line) ≡ none
-  unfolding verbCall request
-  decide-missing h = ap (λ ws. Option·map decides (request ws)) (none-behind e line h)
+pub long-line : (line : List ℕ) → longest < length line → lineSaid line ≡ none
+unfolding lineSaid
+long-line line h = rw (lt-leb (length line) longest h)
 
-  rest-words : e < length line → words (take (length line - (e + 1)) (drop (e + 1) line)) ≡ wordsAfter e line
-  rest-words h =
-      ap words (take-all (length line - (e + 1)) (drop (e + 1) line) (omega (arith, length-drop (e + 1) line))) ∙ sym (some-behind e line h)
+-- what nothing known says
+pub reads-nothing : {slots : List Slot} (bytes parts : List ℕ) {said : Option Asked} → said ≡ none
+    → ReadsCall (record { verb = Unknown; slots = slots }) bytes parts said
+reads-nothing bytes parts e = record { values = []; means = e; holds = λ i h. absurd (omega arith) }
 
-  pub rest-short : (n : ℕ) → length line ≤ 2 * n → length (take (length line - (e + 1)) (drop (e + 1) line)) ≤ 2 * n
-  rest-short n h = omega (arith, length-take (length line - (e + 1)) (drop (e + 1) line), length-drop (e + 1) line)
+module _ (line : List ℕ) (h : length line ≤ longest) {end : ℕ} (w : WordAt 0 line end) where
+  worded : lineSaid line ≡ verbSaid (verbNamed (between 0 end line)) (wordsFrom (end + 1) line)
+  unfolding lineSaid wordsSaid
+  worded = rw (le-leb (length line) longest h, sym (from-start line) ∙ w .is)
 
-  module _ (h : e < length line) {p : Parsed} {name context variable : List ℕ}
-      (s : Parses p name context variable (request (words (take (length line - (e + 1)) (drop (e + 1) line))))) where
-    said : verbCall Decide (wordsAfter e line) ≡ Option·map decides (parsed p name context variable)
-    unfolding verbCall
-    said = ap (Option·map decides) (sym (s .is ∙ ap request (rest-words h)))
+  module _ {v : Verb} (e : v ≡ verbNamed (between 0 end line)) where
+    pub line-nothing : valuesSaid (kindsOf v) (wordsFrom (end + 1) line) ≡ none → lineSaid line ≡ none
+    unfolding bind
+    line-nothing n = worded ∙ rw (← e, n)
 
-    pub decide-none : p ≡ Parsed.Malformed → ReadsCall Said.Nothing name context variable (verbCall Decide (wordsAfter e line))
-    decide-none q = reads-nothing name context variable (said ∙ ap (λ u. Option·map decides (parsed u name context variable)) q)
+    pub line-reads : {slots : List Slot} {bytes parts : List ℕ} → Whole slots (kindsOf v) bytes parts (valuesSaid (kindsOf v) (wordsFrom (end + 1) line))
+        → ReadsCall (record { verb = v; slots = slots }) bytes parts (lineSaid line)
+    unfolding bind
+    line-reads f = record { values = f .values; means = worded ∙ rw (← e, f .are); holds = f .holds }
 
-    pub decide-said : (f : Fields) → p ≡ Parsed.Of f → ReadsCall (Said.Decide f) name context variable (verbCall Decide (wordsAfter e line))
-    decide-said f q = record {
-      is = sym (said ∙ ap (λ u. Option·map decides (parsed u name context variable)) q);
-      inside = said-inside s f q;
-    }
+-- ---- what the slots hold
 
--- ---- an edit
+same-edit : {o o' : Value} → o ≡ o' → editOf (o .operation) (o .table) (o .parts) ≡ editOf (o' .operation) (o' .table) (o' .parts)
+same-edit e = ap (λ v. editOf (v .operation) (v .table) (v .parts)) e
 
-module _ (by : By) (n : ℕ) {r : Entered} {bytes : List ℕ} (ws : List (List ℕ)) (i : Enters r bytes (editEntry ws)) where
-  pub edit-nothing : r ≡ Entered.Malformed → ReadsEdit Said.Nothing by n bytes ws
-  edit-nothing q = λ name variable h.
-      reads-nothing name bytes variable (ap (Option·map (λ e. byCall by (take n name) (edit e))) (entered-none i q))
+same-principal : {m m' : ℕ} {n n' : List ℕ} {l l' : ℕ} {e e' : Edit} → m ≡ m' → n ≡ n' → l ≡ l' → e ≡ e'
+    → some (calls (by (callerOf m n l) e)) ≡ some (calls (by (callerOf m' n' l') e'))
+same-principal a b c d = rw (a, b, c, d)
 
-  pub edit-said : {s : Operation} {t : Table} {k : ℕ} → r ≡ Entered.In s t k → ReadsEdit (Said.Edit by n s t k) by n bytes ws
-  edit-said q = λ name variable h. record {
-    is = sym (ap (Option·map (λ e. byCall by (take n name) (edit e))) (entered-is i q));
-    inside = (h, entered-in i q);
-  }
+same-encoded : {t t' : Table} {n n' : ℕ} {k k' : List ℕ} → t ≡ t' → n ≡ n' → k ≡ k' → some (encodes t n k) ≡ some (encodes t' n' k')
+same-encoded a b c = rw (a, b, c)
 
-pub owner-said : {r : Said} {bytes : List ℕ} (ws : List (List ℕ)) → ReadsEdit r By.Owner 0 bytes ws → (name variable : List ℕ)
-    → ReadsCall r name bytes variable (verbCall Owner ws)
-unfolding verbCall
-owner-said ws p name variable = p name variable (omega arith)
+numbered : {v v' : Value} → v ≡ v' → getD (v .parts) 0 0 ≡ getD (v' .parts) 0 0
+numbered e = ap (λ v. getD (v .parts) 0 0) e
 
--- ---- a principal: model, name, level
+held : (v : Verb) (slots : List Slot) (bytes parts : List ℕ) (values : List Value)
+    → ((i : ℕ) → i < length (kindsOf v) → Holds (slotIn slots i) (valueAt i values) (side (inParts (kindIn (kindsOf v) i)) bytes parts))
+    → meaning v values ≡ askedIn v slots bytes parts
+held Decide slots bytes parts values h = ap (λ q. some (calls (ask q))) (request-held slots bytes parts values h)
+held Owner slots bytes parts values h = ap (λ e. some (calls (owner e))) (same-edit (h 0 (omega arith) .is))
+held Principal slots bytes parts values h =
+    same-principal (numbered (h 0 (omega arith) .is)) (ap (λ v. v .parts) (h 1 (omega arith) .is)) (numbered (h 2 (omega arith) .is))
+    (same-edit (h 3 (omega arith) .is))
+held Encode slots bytes parts values h = same-encoded (ap (λ v. v .table) (h 1 (omega arith) .is)) (numbered (h 0 (omega arith) .is)) (ap (λ v. v .parts) (h 1 (omega arith) .is))
+held Decode slots bytes parts values h = ap (λ v. some (decodes (v .parts))) (h 0 (omega arith) .is)
+held Image slots bytes parts values h = refl
+held Unknown slots bytes parts values h = refl
 
-pub principal-none : {e : ℕ} {line : List ℕ} → Silent decimal e line → verbCall Principal (wordsAfter e line) ≡ none
-unfolding verbCall principalOf
-principal-none q = headed-none decimal modeled no-decimal q
+module _ {r : Read} {bytes parts : List ℕ} {said : Option Asked} (c : ReadsCall r bytes parts said) where
+  pub call-held : said ≡ askedIn (r .verb) (r .slots) bytes parts
+  call-held = c .means ∙ held (r .verb) (r .slots) bytes parts (c .values) (c .holds)
 
-module _ {e : ℕ} {line : List ℕ} {model a : ℕ} (l : Leads decimal e line model a) where
-  model-is : verbCall Principal (wordsAfter e line) ≡ modeled model (wordsAfter a line)
-  unfolding verbCall principalOf
-  model-is = headed-some decimal modeled no-decimal l
+  pub call-fit : Fit (r .slots) (kindsOf (r .verb)) bytes parts
+  call-fit = record { within = λ i h. c .holds i h .within }
 
-  pub principal-unnamed : Silent hexOctets a line → verbCall Principal (wordsAfter e line) ≡ none
-  principal-unnamed q = model-is ∙ headed-none hexOctets (leveled model) no-octets q
+-- ---- calls by what they are handed
 
-  module _ {name : List ℕ} {b : ℕ} (m : Leads hexOctets a line name b) where
-    name-is : verbCall Principal (wordsAfter e line) ≡ leveled model name (wordsAfter b line)
-    name-is = model-is ∙ headed-some hexOctets (leveled model) no-octets m
+module _ (o : Operation) (t : Table) {found after : List ℕ} {r : Edited} where
+  pub owner-as : {x y : List ℕ} → x ≡ y → OwnerEdits (editOf o t x) found after r → OwnerEdits (editOf o t y) found after r
+  owner-as e p = rw (← e) p
 
-    pub principal-unleveled : Silent decimal b line → verbCall Principal (wordsAfter e line) ≡ none
-    principal-unleveled q = name-is ∙ headed-none decimal (edited model name) no-decimal q
-
-    pub principal-is : {level d : ℕ} → Leads decimal b line level d → verbCall Principal (wordsAfter e line) ≡ edited model name level (wordsAfter d line)
-    principal-is v = name-is ∙ headed-some decimal (edited model name) no-decimal v
-
--- ---- an instance to encode: column, then the key
-
-pub encode-none : {e : ℕ} {line : List ℕ} → Silent decimal e line → verbCall Encode (wordsAfter e line) ≡ none
-unfolding verbCall encodeOf
-encode-none q = headed-none decimal encoded no-decimal q
-
-module _ {e : ℕ} {line : List ℕ} {column a : ℕ} (l : Leads decimal e line column a) {r : Entered} {bytes : List ℕ}
-    (i : Enters r bytes (tableEntry Remove (wordsAfter a line))) where
-  column-is : verbCall Encode (wordsAfter e line) ≡ encoded column (wordsAfter a line)
-  unfolding verbCall encodeOf
-  column-is = headed-some decimal encoded no-decimal l
-
-  pub encode-bad : r ≡ Entered.Malformed → verbCall Encode (wordsAfter e line) ≡ none
-  encode-bad q = column-is ∙ ap (Option·map (λ x. encodes (x .table) column (x .bytes))) (entered-none i q)
-
-  pub encode-said : {s : Operation} {t : Table} {n : ℕ} → r ≡ Entered.In s t n → (name variable : List ℕ)
-      → ReadsCall (Said.Encode t column n) name bytes variable (verbCall Encode (wordsAfter e line))
-  encode-said q name variable = record {
-    is = sym (column-is ∙ ap (Option·map (λ x. encodes (x .table) column (x .bytes))) (entered-is i q));
-    inside = entered-in i q;
-  }
-
--- ---- an instance to decode: one word
-
-over-one : (ws : List (List ℕ)) → 1 ≤ length (restWords ws) → decodeOf ws ≡ none
-unfolding decodeOf
-over-one [] h = refl
-over-one (w ∷ []) h = absurd (omega arith)
-over-one (w ∷ v ∷ ws) h = refl
-
-no-identifier : dotted [] ≡ none
-unfolding dotted decimals split decimal same
-no-identifier = refl
-
-just-one : (ws : List (List ℕ)) → restWords ws ≡ [] → decodeOf ws ≡ Option·map decodes (dotted (firstWord ws))
-unfolding decodeOf
-just-one [] q = sym (ap (Option·map decodes) no-identifier)
-just-one (w ∷ []) q = refl
-just-one (w ∷ v ∷ ws) q = absurd (omega (arith, ap length q))
-
-module _ {e : ℕ} {line : List ℕ} {r : Span} (w : Spans r e line) where
-  pub decode-over : r .end < length line → verbCall Decode (wordsAfter e line) ≡ none
-  unfolding verbCall
-  decode-over h = over-one (wordsAfter e line) (rw (w .rest-are) (word-over (r .end) line h))
-
-  module _ (h : length line ≤ r .end) {f : Filled} {variable : List ℕ} (s : Fills f variable (dotted (between (r .begin) (r .end) line))) where
-    alone : verbCall Decode (wordsAfter e line) ≡ Option·map decodes (dotted (between (r .begin) (r .end) line))
-    unfolding verbCall
-    alone =
-        just-one (wordsAfter e line) (w .rest-are ∙ none-behind (r .end) line h) ∙ ap (λ u. Option·map decodes (dotted u)) (w .word-is)
-
-    pub decode-bad : f ≡ Malformed → verbCall Decode (wordsAfter e line) ≡ none
-    decode-bad q = alone ∙ ap (Option·map decodes) (filled-bad s q)
-
-    pub decode-said : {n : ℕ} → f ≡ Upto n → (name bytes : List ℕ)
-        → ReadsCall (Said.Decode n) name bytes variable (verbCall Decode (wordsAfter e line))
-    decode-said q name bytes = record { is = sym (alone ∙ ap (Option·map decodes) (filled-is s q)); inside = filled-in s q }
-
--- ---- the image: no word
-
-module _ (e : ℕ) (line : List ℕ) where
-  image-some : (ws : List (List ℕ)) → 1 ≤ length ws → imageOf ws ≡ none
-  unfolding imageOf
-  image-some [] h = absurd (omega arith)
-  image-some (w ∷ ws) h = refl
-
-  pub image-over : e < length line → verbCall Image (wordsAfter e line) ≡ none
-  unfolding verbCall
-  image-over h = image-some (wordsAfter e line) (word-over e line h)
-
-  pub image-alone : length line ≤ e → verbCall Image (wordsAfter e line) ≡ some images
-  unfolding verbCall imageOf
-  image-alone h = ap imageOf (none-behind e line h)
-
--- ---- the whole line
-
-pub unknown-none : (ws : List (List ℕ)) → verbCall Unknown ws ≡ none
-unfolding verbCall
-unknown-none ws = refl
-
-pub line-long : (line : List ℕ) → longest < length line → lineCall line ≡ none
-unfolding lineCall
-line-long line h = rw (lt-leb (length line) longest h)
-
-pub line-is : (line : List ℕ) (b : ℕ) → length line ≤ longest → b ≡ 0 + run 32 (drop 0 line)
-    → lineCall line ≡ verbCall (verbNamed (between 0 b line)) (wordsAfter b line)
-unfolding lineCall callOf
-line-is line b h q = rw (le-leb (length line) longest h) (ap callOf (word-cut line (omega arith) q))
+  pub principal-as : {m m' : ℕ} {n n' : List ℕ} {l l' : ℕ} {x x' : List ℕ} → m ≡ m' → n ≡ n' → l ≡ l' → x ≡ x'
+      → PrincipalEdits (callerOf m n l) (editOf o t x) found after r → PrincipalEdits (callerOf m' n' l') (editOf o t x') found after r
+  principal-as a b c d p = rw (← a, ← b, ← c, ← d) p

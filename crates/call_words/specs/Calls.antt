@@ -1,151 +1,85 @@
--- A line of the program `trycalls`, read as a call:
+-- A line of the program `trycalls`, read as what it asks for:
 --
 --     decide MODEL LEVEL KIND NAME CONTEXT VARIABLE
---     owner put ROW            owner remove KEY
---     principal MODEL NAME LEVEL put ROW      principal MODEL NAME LEVEL remove KEY
+--     owner EDIT               principal MODEL NAME LEVEL EDIT
 --     encode COLUMN KEY        decode OID        image
 --
--- ROW and KEY are a table's word and its fields (crate `rowSaid`). Assumes nothing.
+-- Each word names the kinds of the fields behind it (`line_fields/specs/Kinds.antt`), and its meaning picks their values by place. Assumes nothing.
 use mathlib.Core.Bool.{cond}
 use mathlib.Core.List.{List, [], _∷_}
-use mathlib.Core.Option.{Option, none, some, bind, Option·map}
+use mathlib.Core.Option.{Option, none, some, bind}
 use Prim.Native.Nat.{ℕ}
 use lib.Dec.{leb}
 use lib.ListN.{length}
+use Rattle.lists.specs.Lists.{find}
 use Rattle.lists.specs.Order.{same}
 use Rattle.rows.specs.declared.Table.{Table}
-use Rattle.decision_steps.specs.Request.{Request}
-use Rattle.text_words.specs.Words.{words, decimal, hexOctets, dotted}
-use Rattle.request_words.specs.Requests.{longest, request}
-use Rattle.edit_rules.specs.Edits.{Edit, editOf, fieldsOf, Caller, callerOf}
-use Rattle.text_rows.specs.TableWords.{tableNamed}
-use Rattle.text_rows.specs.RowWords.{rowSaid}
-use Rattle.rows.specs.declared.Operation.{Operation}
-use Rattle.rows.specs.declared.Operation.the-variants.{Put, Remove}
+use Rattle.edit_rules.specs.Edits.{callerOf}
+use Rattle.edits.specs.Does.{Call, ask, owner, by}
+use Rattle.text_words.specs.Words.{longest, words}
+use Rattle.line_fields.specs.declared.Kind.{Kind}
+use Rattle.line_fields.specs.declared.Kind.the-variants.{Number, Name, Identifier, Key, Edit}
+use Rattle.line_fields.specs.Kinds.{Value, valueAt, partsAt, numberAt, editAt, valuesSaid}
+use Rattle.line_fields.specs.Requests.{requestKinds, requestOf}
 use Rattle.call_words.specs.declared.Verb.{Verb}
 use Rattle.call_words.specs.declared.Verb.the-variants.{Decide, Owner, Principal, Encode, Decode, Image, Unknown}
 
-pub data Call : Type 0 where
-  decides : Request → Call
-  owner : Edit → Call
-  principal : Caller → Edit → Call
-  encodes : Table → ℕ → List ℕ → Call
-  decodes : List ℕ → Call
-  images : Call
+-- ---- the words that name what a line asks for
 
--- ---- the words that name a call
+-- decide, owner, principal, encode, decode, image; no word names the unknown
+abbrev pub verbWord : Verb → List ℕ
+verbWord Decide = 100 ∷ 101 ∷ 99 ∷ 105 ∷ 100 ∷ 101 ∷ []
+verbWord Owner = 111 ∷ 119 ∷ 110 ∷ 101 ∷ 114 ∷ []
+verbWord Principal = 112 ∷ 114 ∷ 105 ∷ 110 ∷ 99 ∷ 105 ∷ 112 ∷ 97 ∷ 108 ∷ []
+verbWord Encode = 101 ∷ 110 ∷ 99 ∷ 111 ∷ 100 ∷ 101 ∷ []
+verbWord Decode = 100 ∷ 101 ∷ 99 ∷ 111 ∷ 100 ∷ 101 ∷ []
+verbWord Image = 105 ∷ 109 ∷ 97 ∷ 103 ∷ 101 ∷ []
+verbWord Unknown = []
 
-abbrev pub decideWord : List ℕ
-decideWord = 100 ∷ 101 ∷ 99 ∷ 105 ∷ 100 ∷ 101 ∷ []
+abbrev pub verbs : List Verb
+verbs = Decide ∷ Owner ∷ Principal ∷ Encode ∷ Decode ∷ Image ∷ []
 
-abbrev pub ownerWord : List ℕ
-ownerWord = 111 ∷ 119 ∷ 110 ∷ 101 ∷ 114 ∷ []
-
-abbrev pub principalWord : List ℕ
-principalWord = 112 ∷ 114 ∷ 105 ∷ 110 ∷ 99 ∷ 105 ∷ 112 ∷ 97 ∷ 108 ∷ []
-
-abbrev pub encodeWord : List ℕ
-encodeWord = 101 ∷ 110 ∷ 99 ∷ 111 ∷ 100 ∷ 101 ∷ []
-
-abbrev pub decodeWord : List ℕ
-decodeWord = 100 ∷ 101 ∷ 99 ∷ 111 ∷ 100 ∷ 101 ∷ []
-
-abbrev pub imageWord : List ℕ
-imageWord = 105 ∷ 109 ∷ 97 ∷ 103 ∷ 101 ∷ []
-
-abbrev pub putWord : List ℕ
-putWord = 112 ∷ 117 ∷ 116 ∷ []
-
-abbrev pub removeWord : List ℕ
-removeWord = 114 ∷ 101 ∷ 109 ∷ 111 ∷ 118 ∷ 101 ∷ []
+abbrev pub orUnknown : Option Verb → Verb
+orUnknown none = Unknown
+orUnknown (some v) = v
 
 unfoldable pub verbNamed : List ℕ → Verb
-verbNamed w =
-    cond (same w decideWord) Decide
-    (cond (same w ownerWord) Owner
-    (cond (same w principalWord) Principal
-    (cond (same w encodeWord) Encode
-    (cond (same w decodeWord) Decode
-    (cond (same w imageWord) Image Unknown)))))
+verbNamed w = orUnknown (find (λ v. same (verbWord v) w) verbs)
 
--- ---- a word in front that says something, and what is made of it and of the words behind it
+-- ---- the fields behind each, and what they mean
 
-abbrev pub headed : {A B : Type 0} → (List ℕ → Option A) → (A → List (List ℕ) → Option B) → List (List ℕ) → Option B
-unfolding bind
-headed read make [] = none
-headed read make (w ∷ ws) = bind (read w) (λ x. make x ws)
+abbrev pub kindsOf : Verb → List Kind
+kindsOf Decide = requestKinds
+kindsOf Owner = Edit ∷ []
+kindsOf Principal = Number ∷ Name ∷ Number ∷ Edit ∷ []
+kindsOf Encode = Number ∷ Key ∷ []
+kindsOf Decode = Identifier ∷ []
+kindsOf Image = []
+kindsOf Unknown = []
 
--- ---- a table's row or key: the table's word and the fields
+-- a call on a store (`edits/specs/Does.antt`), an instance of a table, a column and a key, an identifier that may be one, the image
+pub data Asked : Type 0 where
+  calls : Call → Asked
+  encodes : Table → ℕ → List ℕ → Asked
+  decodes : List ℕ → Asked
+  images : Asked
 
-pub record Entry : Type 0 where
-  pub operation : Operation
-  pub table : Table
-  pub bytes : List ℕ
+abbrev pub meaning : Verb → List Value → Option Asked
+meaning Decide vs = some (calls (ask (requestOf vs)))
+meaning Owner vs = some (calls (owner (editAt 0 vs)))
+meaning Principal vs = some (calls (by (callerOf (numberAt 0 vs) (partsAt 1 vs) (numberAt 2 vs)) (editAt 3 vs)))
+meaning Encode vs = some (encodes (valueAt 1 vs .table) (numberAt 0 vs) (partsAt 1 vs))
+meaning Decode vs = some (decodes (partsAt 0 vs))
+meaning Image vs = some images
+meaning Unknown vs = none
 
-abbrev pub entryOf : Operation → Table → List ℕ → Entry
-entryOf s t b = record { operation = s; table = t; bytes = b }
+abbrev pub verbSaid : Verb → List (List ℕ) → Option Asked
+verbSaid v ws = bind (valuesSaid (kindsOf v) ws) (meaning v)
 
-abbrev pub tableFields : Operation → Table → List (List ℕ) → Option Entry
-tableFields s t ws = Option·map (entryOf s t) (rowSaid (fieldsOf s t) ws)
+unfoldable pub wordsSaid : List (List ℕ) → Option Asked
+wordsSaid [] = none
+wordsSaid (w ∷ ws) = verbSaid (verbNamed w) ws
 
-unfoldable pub tableEntry : Operation → List (List ℕ) → Option Entry
-tableEntry s ws = headed tableNamed (tableFields s) ws
-
--- ---- an edit: a row is put, the row of a key is removed
-
-abbrev pub edit : Entry → Edit
-edit e = editOf (e .operation) (e .table) (e .bytes)
-
-unfoldable pub subjectNamed : List ℕ → Option Operation
-subjectNamed w = cond (same w putWord) (some Put) (cond (same w removeWord) (some Remove) none)
-
-unfoldable pub editEntry : List (List ℕ) → Option Entry
-editEntry ws = headed subjectNamed tableEntry ws
-
--- ---- the calls
-
--- model, name, level, then the edit
-abbrev pub edited : ℕ → List ℕ → ℕ → List (List ℕ) → Option Call
-edited model name level ws = Option·map (λ e. principal (callerOf model name level) (edit e)) (editEntry ws)
-
-abbrev pub leveled : ℕ → List ℕ → List (List ℕ) → Option Call
-leveled model name = headed decimal (edited model name)
-
-abbrev pub modeled : ℕ → List (List ℕ) → Option Call
-modeled model = headed hexOctets (leveled model)
-
-unfoldable pub principalOf : List (List ℕ) → Option Call
-principalOf ws = headed decimal modeled ws
-
--- column, then the key
-abbrev pub encoded : ℕ → List (List ℕ) → Option Call
-encoded column ws = Option·map (λ e. encodes (e .table) column (e .bytes)) (tableEntry Remove ws)
-
-unfoldable pub encodeOf : List (List ℕ) → Option Call
-encodeOf ws = headed decimal encoded ws
-
-unfoldable pub decodeOf : List (List ℕ) → Option Call
-decodeOf [] = none
-decodeOf (w ∷ []) = Option·map decodes (dotted w)
-decodeOf (w ∷ v ∷ ws) = none
-
-unfoldable pub imageOf : List (List ℕ) → Option Call
-imageOf [] = some images
-imageOf (w ∷ ws) = none
-
-unfoldable pub verbCall : Verb → List (List ℕ) → Option Call
-verbCall Decide ws = Option·map decides (request ws)
-verbCall Owner ws = Option·map (λ e. owner (edit e)) (editEntry ws)
-verbCall Principal ws = principalOf ws
-verbCall Encode ws = encodeOf ws
-verbCall Decode ws = decodeOf ws
-verbCall Image ws = imageOf ws
-verbCall Unknown ws = none
-
-unfoldable pub callOf : List (List ℕ) → Option Call
-callOf [] = none
-callOf (w ∷ ws) = verbCall (verbNamed w) ws
-
--- a longer line is no call
-unfoldable pub lineCall : List ℕ → Option Call
-lineCall line = cond (leb (length line) longest) (callOf (words line)) none
+-- a longer line asks for nothing
+unfoldable pub lineSaid : List ℕ → Option Asked
+lineSaid line = cond (leb (length line) longest) (wordsSaid (words line)) none

@@ -13,7 +13,7 @@ use borrow.Author.Tests.{eqb-true, ltb-true, ltb-false, lt-leb}
 use Rattle.lists.proofs.Bools.{split as by}
 use Rattle.rows.specs.Tables.{Tables}
 use Rattle.text_words.specs.Words.{longer, split, run}
-use Rattle.request_words.specs.Requests.{longest}
+use Rattle.text_words.specs.Words.{longest}
 use Rattle.request_lines.specs.Answers.{malformed, lineAnswer}
 use Rattle.request_lines.specs.Lines.{ended, linesOf, told, report}
 use Rattle.text_words.proofs.Words.{run-mark, run-other, split-mark, split-other, split-some, split-last}

@@ -14,7 +14,7 @@ use Rattle.program_input.specs.declared.Continued.{Continued}
 use Rattle.program_input.specs.Lines.{Continues}
 use Rattle.request_lines.specs.declared.Progress.{Progress}
 use Rattle.text_words.specs.Words.{run}
-use Rattle.request_words.specs.Requests.{longest}
+use Rattle.text_words.specs.Words.{longest}
 use Rattle.request_lines.specs.Answers.{lineAnswer}
 use Rattle.request_lines.specs.Lines.{mostTold, linesOf, told, report, Ready, Steps}
 use Rattle.request_lines.proofs.Lines.{OneLine, one-line-nil, one-line-take, one-line-append, one-line-run, lines-none, lines-last, begun-on, told-on}

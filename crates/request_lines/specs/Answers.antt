@@ -9,8 +9,8 @@ use Rattle.answers.specs.Numbers.{answerNumber}
 use Rattle.rows.specs.Tables.{Tables}
 use Rattle.decision_steps.specs.Request.{Request, legalRequest}
 use Rattle.decision_steps.specs.Decision.{ifLegal}
-use Rattle.text_words.specs.Words.{words}
-use Rattle.request_words.specs.Requests.{longest, request}
+use Rattle.text_words.specs.Words.{longest, words}
+use Rattle.line_fields.specs.Requests.{request}
 
 -- what a line is answered that says no request
 abbrev pub malformed : ℕ

@@ -13,7 +13,8 @@ use Rattle.decision_steps.specs.Request.{legalRequest}
 use Rattle.decision_steps.specs.Decision.{decision, bearsContext, mapsPrincipal}
 use Rattle.text_words.specs.Words.{split, digitsFrom, decimal, hexDigit, hexPairs, hexOctets, decimals, dotted}
 use Rattle.text_values.specs.Texts.{digits, decimalText}
-use Rattle.request_words.specs.Requests.{request}
+use Rattle.line_fields.specs.Kinds.{kindSaid, valuesSaid}
+use Rattle.line_fields.specs.Requests.{request}
 use Rattle.request_lines.specs.Answers.{lineAnswer}
 use Rattle.request_lines.specs.Lines.{linesOf, told, report, written}
 
@@ -30,6 +31,6 @@ twoLines =
 -- `1 2`, `2 7`
 pub p12-written : written p12 twoLines ≡ 49 ∷ 32 ∷ 50 ∷ 10 ∷ 50 ∷ 32 ∷ 55 ∷ 10 ∷ []
 unfolding written imageFault sizedFault rowsFault tableFault faults sequenceFault integerFault laidOut layoutOf keyFields rowFields before same tablesAt
-    linesOf split report lineAnswer request bind decimal digitsFrom hexOctets hexPairs hexDigit dotted decimals legalRequest decision bearsContext
+    linesOf split report lineAnswer request valuesSaid kindSaid bind decimal digitsFrom hexOctets hexPairs hexDigit dotted decimals legalRequest decision bearsContext
     mapsPrincipal told decimalText digits
 p12-written = refl

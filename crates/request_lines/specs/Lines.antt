@@ -13,7 +13,7 @@ use Rattle.image_judge.specs.Faults.{tablesIn}
 use Rattle.request_lines.specs.declared.Progress.{Progress}
 use Rattle.text_words.specs.Words.{split, run}
 use Rattle.text_values.specs.Texts.{decimalText}
-use Rattle.request_words.specs.Requests.{longest}
+use Rattle.text_words.specs.Words.{longest}
 use Rattle.request_lines.specs.Answers.{lineAnswer}
 
 -- ---- the lines of an input

@@ -1,10 +1,11 @@
 // Lines that say requests, and what is written for them: a line's number and its answer. Document 01's program `tryreq` reads them.
-use answers::Answer;
 use answers::Fault;
 use image_layout::Layout;
-use request_words::LONGEST_LINE;
-use request_words::MOST_PARTS;
-use request_words::Parsed;
+use line_fields::LINE_ROOM;
+use line_fields::MOST_FIELDS;
+use line_fields::REQUEST_FIELDS;
+use line_fields::Slot;
+use text_words::LONGEST_LINE;
 ghost use mathlib.Core.Path.{_≡_};
 ghost use mathlib.Core.List.{_++_};
 ghost use mathlib.Core.Option.{some};
@@ -12,8 +13,9 @@ ghost use Prim.Native.Nat.{_+_, _-_, _≤_, _<_};
 ghost use lib.ListN.{length, take};
 ghost use Rattle.answers.specs.Numbers.{faultNumber};
 ghost use Rattle.image_judge.specs.Faults.{SoundLayout, tablesAt};
-ghost use Rattle.decision_steps.specs.Request.{asked};
 ghost use Rattle.text_words.specs.Words.{run};
+ghost use Rattle.line_fields.specs.Requests.{requestKinds, requestIn};
+ghost use Rattle.line_fields.specs.Slots.{Fit};
 ghost use Rattle.request_lines.specs.Answers.{requestAnswer, lineAnswer};
 ghost use Rattle.request_lines.specs.Lines.{mostTold, numberEnd, told, linesOf, report, Ready, Steps};
 
@@ -21,6 +23,31 @@ ghost use Rattle.request_lines.specs.Lines.{mostTold, numberEnd, told, l
 
 // What a line is answered that says no request.
 pub const MALFORMED: u32 = 7;
+
+// The answer to the request that slots hold.
+fn answer_fields(
+    image: &[u8],
+    l: Layout,
+    slots: [Slot; MOST_FIELDS],
+    bytes: &[u8],
+    parts: &[u32],
+) -> u32
+    requires { ⌜ SoundLayout (now image) l ⌝ }
+    requires { ⌜ Fit slots requestKinds (now bytes) (now parts) ⌝ }
+    ensures { λ r. ⌜ r ≡ requestAnswer (tablesAt (now (image .entry)) l) (some (requestIn slots (now (bytes .entry)) (now (parts .entry)))) ⌝ }
+{
+    let answer = decision::answer_request(
+        image,
+        l,
+        line_fields::number_in(parts, slots[0]),
+        line_fields::octets_in(bytes, slots[3]),
+        line_fields::number_in(parts, slots[1]),
+        line_fields::number_in(parts, slots[2]),
+        line_fields::octets_in(bytes, slots[4]),
+        line_fields::identifier_in(parts, slots[5]),
+    );
+    answers::answer_number(answer)
+}
 
 // The answer to a line.
 pub fn answer_line(image: &[u8], l: Layout, line: &[u8]) -> u32
@@ -30,26 +57,15 @@ pub fn answer_line(image: &[u8], l: Layout, line: &[u8]) -> u32
     if LONGEST_LINE < line.len() {
         return MALFORMED;
     }
-    let mut name = [0u8; MOST_PARTS];
-    let mut context = [0u8; MOST_PARTS];
-    let mut variable = [0u32; MOST_PARTS];
-    let parsed = request_words::parse_request(line, &mut name, &mut context, &mut variable);
-    let Parsed::Of(f) = parsed else {
+    let mut bytes = [0u8; LINE_ROOM];
+    let mut parts = [0u32; LINE_ROOM];
+    let kinds = line_fields::request_kinds();
+    let fields = line_fields::read(kinds, REQUEST_FIELDS, line, 0, &mut bytes, &mut parts);
+    if !fields.whole {
         return MALFORMED;
-    };
-    let n = f.name;
-    let c = f.context;
-    let v = f.variable;
-    answers::answer_number(decision::answer_request(
-        image,
-        l,
-        f.model,
-        &name[0..n],
-        f.level,
-        f.kind,
-        &context[0..c],
-        &variable[0..v],
-    ))
+    }
+    let slots = fields.slots;
+    answer_fields(image, l, slots, &bytes, &parts)
 }
 
 // ---- what is written

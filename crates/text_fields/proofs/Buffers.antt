@@ -1,42 +1,32 @@
--- Laws of bytes put into a buffer: behind those that stand at its front, or as its first. Assumes nothing.
+-- Laws of bytes put into a buffer: behind those that stand at its front, with their count in front of them. Assumes nothing.
 use mathlib.Core.Path.{_≡_, refl, sym, ap, _∙_}
-use mathlib.Core.List.{List, [], _∷_, _++_, append-assoc, append-nil}
-use Prim.Native.Nat.{ℕ, _+_, _-_, _*_, _≤_, _<_}
+use mathlib.Core.List.{List, [], _∷_, _++_, append-assoc}
+use Prim.Native.Nat.{ℕ, _+_, _≤_, _<_}
 use native.Mathlib.Numerals.{add-one}
 use native.Mathlib.Omega.{arith}
-use lib.ListN.{length, take, drop, set, getD, length-drop, drop-of-length-le}
-use lib.Seq.{length-take-le, take-all, take-append-le, take-append-add, drop-cons}
-use borrow.Rule.Slice.PartMut.{same-len-mid}
-use Rattle.big_endian.specs.BigEndian.{octet, quad, bytes, bytesOf}
+use lib.ListN.{length, take, drop, set, getD}
+use lib.Seq.{length-take-le, take-suc, take-append-le, take-append-add, take-set-lt, set-at}
+use Rattle.big_endian.specs.BigEndian.{octet, bytesOf}
 
 -- w, of which the part from k on was lent and came back as b
 abbrev pub back : ℕ → ℕ → List ℕ → List ℕ → List ℕ
 back k j b w = take k w ++ (b ++ drop j (drop k w))
 
-module _ (k m j : ℕ) (b w : List ℕ) (h : k ≤ length w) (i : m ≤ length b) where
-  pub back-front : take (k + m) (back k j b w) ≡ take k w ++ take m b
-  back-front =
-      let l : length (take k w) ≡ k = length-take-le k w h in
-      ap (λ n. take (n + m) (back k j b w)) (sym l)
-      ∙ take-append-add (take k w) (b ++ drop j (drop k w)) m
-      ∙ ap (λ u. take k w ++ u) (take-append-le m b (drop j (drop k w)) i)
+pub back-front : (k m j : ℕ) (b w : List ℕ) → k ≤ length w → m ≤ length b → take (k + m) (back k j b w) ≡ take k w ++ take m b
+back-front k m j b w h i =
+    let l : length (take k w) ≡ k = length-take-le k w h in
+    ap (λ n. take (n + m) (back k j b w)) (sym l)
+    ∙ take-append-add (take k w) (b ++ drop j (drop k w)) m
+    ∙ ap (λ u. take k w ++ u) (take-append-le m b (drop j (drop k w)) i)
 
--- the part from k on has what is left
-pub part-room : (k n : ℕ) (w : List ℕ) → k + n < length w → n < length (take (length w - k) (drop k w))
-part-room k n w h =
-    let l = length-drop k w in
-    let m : length (drop k w) ≤ length w - k = omega arith in
-    rw (take-all (length w - k) (drop k w) m) (omega arith)
-
--- a first byte, and others behind it
-pub headed : (x m j : ℕ) (b w : List ℕ) → 0 < length w → m ≤ length b → take (m + 1) (set (back 1 j b w) 0 x) ≡ x ∷ take m b
-headed x m j b [] h i = absurd (omega arith)
-headed x m j b (y ∷ w) h i = rw (add-one m) (ap (λ u. x ∷ u) (take-append-le m b (drop j w) i))
-
--- one byte
-pub put-one : (w : List ℕ) (x : ℕ) → 0 < length w → take 1 (set w 0 x) ≡ x ∷ []
-put-one [] x h = absurd (omega arith)
-put-one (y ∷ w) x h = refl
+-- a count in front of what was put behind its place
+pub head-put : (from n c : ℕ) (w b x : List ℕ) → take n b ≡ take (from + 1) w ++ x → from < length w → from < n
+    → take n (set b from c) ≡ take from w ++ (c ∷ x)
+head-put from n c w b x e h k =
+    let s : take (from + 1) w ≡ take from w ++ (getD w from 0 ∷ []) = rw (add-one from) (take-suc w from 0 h) in
+    take-set-lt n b from c k
+    ∙ ap (λ u. set u from c) (e ∙ ap (λ u. u ++ x) s ∙ append-assoc (take from w) (getD w from 0 ∷ []) x)
+    ∙ set-at (take from w) (getD w from 0) x c from (length-take-le from w (omega arith))
 
 -- octets are their own bytes
 pub bytesOf-octet : (xs : List ℕ) → bytesOf octet xs ≡ xs

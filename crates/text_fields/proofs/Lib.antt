@@ -1,3 +1,3 @@
 pub mod Buffers
 pub mod FieldWords
-pub mod FieldText
+pub mod RowWords

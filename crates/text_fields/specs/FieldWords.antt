@@ -1,27 +1,35 @@
--- What a word of a line says of a field: a name or mask in hex, a subtree dotted, a number in decimal.
--- A field that is out of range is refused here as a malformed one is, since both are 7. Assumes nothing.
+-- What a word of a line says of a field, in the form of the image: a name or mask in hex, a subtree dotted, a number in decimal.
+-- A field that its bytes can hold is taken even if it is out of range, so that the call it is handed to judges it; what they cannot hold is malformed.
+-- Assumes nothing.
 use mathlib.Core.Bool.{cond}
-use mathlib.Core.List.{List, [], _∷_}
-use mathlib.Core.Option.{Option, none, some, bind, Option·map}
-use Prim.Native.Nat.{ℕ}
-use Rattle.big_endian.specs.BigEndian.{octet, quad}
-use Rattle.rows.specs.Fields.{Field, sequence, integer, within, legal, fieldBytes}
+use mathlib.Core.List.{List, _∷_}
+use mathlib.Core.Option.{Option, none, some}
+use Prim.Native.Nat.{ℕ, suc, _*_}
+use lib.Dec.{leb, ltb}
+use lib.ListN.{length}
+use Rattle.big_endian.specs.BigEndian.{Width, octet, quad, bound, bytes, bytesOf}
+use Rattle.rows.specs.Fields.{Field, sequence, integer}
 use Rattle.text_words.specs.Words.{decimal, hexOctets, dotted}
 
-unfoldable pub said : Field → List ℕ → Option (List ℕ)
-said (sequence octet lo hi) w = hexOctets w
-said (sequence quad lo hi) w = dotted w
-said (integer width lo hi) w = Option·map (λ x. x ∷ []) (decimal w)
+-- the most that one octet holds: of parts, behind their count, and of a number
+abbrev pub octetMost : ℕ
+octetMost = 255
 
--- in range
-unfoldable pub field : Field → List ℕ → Option (List ℕ)
-field k w = bind (said k w) (λ x. cond (legal k x) (some x) none)
+-- parts behind their count
+abbrev pub counted : Width → Option (List ℕ) → Option (List ℕ)
+counted w none = none
+counted w (some x) = cond (leb (length x) octetMost) (some (length x ∷ bytesOf w x)) none
 
--- its bytes in the form of the image
-unfoldable pub fieldSaid : Field → List ℕ → Option (List ℕ)
-fieldSaid k w = Option·map (fieldBytes k) (field k w)
+-- a number in its bytes
+abbrev pub numbered : Width → Option ℕ → Option (List ℕ)
+numbered w none = none
+numbered w (some x) = cond (ltb x (bound w)) (some (bytes w x)) none
 
--- a number from lo to hi
-abbrev pub ranged : ℕ → ℕ → Option ℕ → Option ℕ
-ranged lo hi none = none
-ranged lo hi (some x) = cond (within lo hi x) (some x) none
+abbrev pub fieldSaid : Field → List ℕ → Option (List ℕ)
+fieldSaid (sequence octet lo hi) w = counted octet (hexOctets w)
+fieldSaid (sequence quad lo hi) w = counted quad (dotted w)
+fieldSaid (integer width lo hi) w = numbered width (decimal w)
+
+-- a word, and the space in front of the next, make no more bytes than this
+abbrev pub wordBytes : List ℕ → ℕ
+wordBytes w = 4 * suc (length w)

@@ -1,2 +1,2 @@
 pub mod FieldWords
-pub mod FieldText
+pub mod RowWords

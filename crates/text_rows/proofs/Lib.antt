@@ -1,3 +1,4 @@
-pub mod RowWords
+pub mod EntryWords
+pub mod FieldText
 pub mod RowText
 pub mod TextLength

@@ -16,7 +16,7 @@ use Rattle.rows.proofs.Places.{Next, next}
 use Rattle.text_values.specs.Texts.{Puts}
 use Rattle.text_values.proofs.Puts.{Onward, start, room, step, done, both, behind}
 use Rattle.text_rows.specs.TableWords.{tableWord}
-use Rattle.text_fields.specs.FieldText.{fieldText, FieldIn}
+use Rattle.text_rows.specs.FieldText.{fieldText, FieldIn}
 use Rattle.text_rows.specs.RowText.{fieldsText, keyText}
 use Rattle.rows.proofs.Forms.{key-first}
 

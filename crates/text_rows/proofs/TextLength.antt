@@ -15,7 +15,7 @@ use Rattle.rows.proofs.Sound.{faults-first, faults-rest}
 use Rattle.big_endian.proofs.BigEndian.{length-numbers, number-bound, octets-drop}
 use Rattle.rows.proofs.Places.{sequence-at}
 use Rattle.text_rows.specs.TableWords.{tableWord}
-use Rattle.text_fields.specs.FieldText.{fieldText}
+use Rattle.text_rows.specs.FieldText.{fieldText}
 use Rattle.text_rows.specs.RowText.{fieldsText, keyText}
 use Rattle.text_values.proofs.Digits.{length-decimal-quad}
 use Rattle.text_values.proofs.Parts.{length-name, length-dotted}

@@ -1,16 +1,19 @@
 -- A mapping in the words of a line, and its bytes, and keys as text: the definitions computed. Assumes nothing.
 use mathlib.Core.Path.{_≡_, refl}
 use mathlib.Core.List.{List, [], _∷_}
-use mathlib.Core.Option.{none, some, bind}
+use mathlib.Core.Option.{some, bind}
 use Prim.Native.Nat.{ℕ}
+use lib.ListN.{take}
 use Rattle.lists.specs.Order.{same}
-use Rattle.text_words.specs.Words.{split, wordsAfter, decimal, digitsFrom, hexDigit, hexPairs, hexOctets}
+use Rattle.text_words.specs.Words.{split, words, decimal, digitsFrom, hexDigit, hexPairs, hexOctets}
 use Rattle.rows.specs.declared.Table.the-variants.{Mapping, Access, View}
 use Rattle.rows.specs.Rows.{keyFields, rowFields}
 use Rattle.text_values.specs.Texts.{digits, decimalText, hexText, nameText, dotsText, dottedText}
-use Rattle.text_fields.specs.FieldWords.{said, field}
+use Rattle.rows.specs.declared.Operation.the-variants.{Put, Remove}
+use Rattle.text_fields.specs.RowWords.{fieldsSaid}
+use Rattle.text_rows.specs.TableWords.{tableNamed}
+use Rattle.text_rows.specs.EntryWords.{entrySaid}
 use Rattle.text_rows.specs.RowText.{fieldsText, keyText}
-use Rattle.text_rows.specs.RowWords.{fields, rowSaid}
 
 -- mapping 3 616e6e 61 3 1
 abbrev pub annLine : List ℕ
@@ -21,14 +24,15 @@ annLine =
 abbrev pub annRow : List ℕ
 annRow = 0 ∷ 0 ∷ 0 ∷ 3 ∷ 3 ∷ 97 ∷ 110 ∷ 110 ∷ 1 ∷ 97 ∷ 3 ∷ 1 ∷ []
 
-pub ann-said : rowSaid (rowFields Mapping) (wordsAfter 7 annLine) ≡ some annRow
-unfolding same split decimal digitsFrom hexDigit hexPairs hexOctets rowFields wordsAfter said field fields rowSaid bind
+pub ann-said : entrySaid Put (words annLine) ≡ some (record { table = Mapping; bytes = annRow; rest = [] })
+unfolding same split tableNamed decimal digitsFrom hexDigit hexPairs hexOctets rowFields entrySaid fieldsSaid bind
 ann-said = refl
 
--- as a key it has words over
-pub ann-no-key : rowSaid (keyFields Mapping) (wordsAfter 7 annLine) ≡ none
-unfolding same split decimal digitsFrom hexDigit hexPairs hexOctets keyFields wordsAfter said field fields rowSaid bind
-ann-no-key = refl
+-- read as a key, it has the words of the other fields behind it
+pub ann-key : entrySaid Remove (words annLine)
+    ≡ some (record { table = Mapping; bytes = take 8 annRow; rest = (54 ∷ 49 ∷ []) ∷ (51 ∷ []) ∷ (49 ∷ []) ∷ [] })
+unfolding same split tableNamed decimal digitsFrom hexDigit hexPairs hexOctets keyFields entrySaid fieldsSaid bind
+ann-key = refl
 
 -- `mapping 3 616e6e`, `access 61 - 0 3` and `view 616c6c 1.3.6.1`, as computed
 pub ann-text : keyText Mapping ((3 ∷ []) ∷ (97 ∷ 110 ∷ 110 ∷ []) ∷ [])

@@ -1,4 +1,5 @@
 pub mod TableWords
+pub mod EntryWords
+pub mod FieldText
 pub mod RowText
-pub mod RowWords
 pub mod Examples

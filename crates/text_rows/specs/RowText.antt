@@ -1,11 +1,14 @@
 -- A row's fields and a table's key as text: the fields in order, a key behind the table's word. Octets are ASCII. Assumes nothing.
+use mathlib.Core.Path.{_≡_}
 use mathlib.Core.List.{List, [], _∷_, _++_}
-use Prim.Native.Nat.{ℕ}
+use mathlib.Core.Option.{none}
+use Prim.Native.Nat.{ℕ, _≤_}
+use lib.ListN.{length, take}
 use Rattle.rows.specs.declared.Table.{Table}
-use Rattle.rows.specs.Fields.{Field}
-use Rattle.rows.specs.Rows.{keyFields}
+use Rattle.rows.specs.Fields.{Field, faults}
+use Rattle.rows.specs.Rows.{keyFields, rowFields}
 use Rattle.text_rows.specs.TableWords.{tableWord}
-use Rattle.text_fields.specs.FieldText.{fieldText}
+use Rattle.text_rows.specs.FieldText.{fieldText}
 
 -- each field with a space in front
 unfoldable pub fieldsText : List Field → List (List ℕ) → List ℕ
@@ -16,3 +19,8 @@ fieldsText (k ∷ ks) (x ∷ xs) = 32 ∷ (fieldText k x ++ fieldsText ks xs)
 -- the word, and the key's fields
 unfoldable pub keyText : Table → List (List ℕ) → List ℕ
 keyText t xs = tableWord t ++ fieldsText (keyFields t) xs
+
+-- the bytes of the first n fields of a row, and no more
+pub record Fields (n : ℕ) (t : Table) (row : List ℕ) : Type 0 where
+  pub places : n ≤ length (rowFields t)
+  pub sound : faults (take n (rowFields t)) row ≡ none

@@ -16,9 +16,12 @@ tableWord Mapping = 109 ∷ 97 ∷ 112 ∷ 112 ∷ 105 ∷ 110 ∷ 103 ∷ []
 tableWord Access = 97 ∷ 99 ∷ 99 ∷ 101 ∷ 115 ∷ 115 ∷ []
 tableWord View = 118 ∷ 105 ∷ 101 ∷ 119 ∷ []
 
+abbrev pub tables : List Table
+tables = Context ∷ Mapping ∷ Access ∷ View ∷ []
+
 -- the table that a word names
 unfoldable pub tableNamed : List ℕ → Option Table
-tableNamed w = find (λ t. same (tableWord t) w) (Context ∷ Mapping ∷ Access ∷ View ∷ [])
+tableNamed w = find (λ t. same (tableWord t) w) tables
 
 -- the table that the code answers
 abbrev pub namedTable : Named → Option Table

@@ -1,18 +1,25 @@
 // A row or a key of a table: read from the words of a line into its bytes in the form of the image, and told from its bytes in words.
+use rows::Form;
+use rows::Operation;
 use rows::Table;
-use text_words::Filled;
+use text_fields::Placed;
 use text_words::Word;
 ghost use mathlib.Core.Path.{_≡_};
 ghost use mathlib.Core.Option.{none};
-ghost use Prim.Native.Nat.{_+_, _≤_, _<_};
-ghost use lib.ListN.{length, take};
-ghost use Rattle.rows.specs.Fields.{faults, values};
-ghost use Rattle.rows.specs.Rows.{keyFields, rowFields, rowMax};
-ghost use Rattle.text_words.specs.Words.{mostLine, wordsAfter, Fills};
+ghost use Prim.Native.Nat.{_+_, _≤_};
+ghost use lib.ListN.{length, take, drop};
+ghost use Rattle.rows.specs.Fields.{fault, faults, value, values};
+ghost use Rattle.rows.specs.Forms.{fieldOf};
+ghost use Rattle.rows.specs.Rows.{keyFields, rowFields};
+ghost use Rattle.text_words.specs.Words.{wordsFrom};
 ghost use Rattle.text_values.specs.Texts.{Puts};
-ghost use Rattle.text_rows.specs.RowWords.{rowSaid};
-ghost use Rattle.text_rows.specs.RowText.{fieldsText, keyText};
+ghost use Rattle.text_fields.specs.RowWords.{Roomy};
+ghost use Rattle.text_rows.specs.EntryWords.{Counts, entrySaid, Enters};
+ghost use Rattle.text_rows.specs.FieldText.{fieldText, FieldIn};
+ghost use Rattle.text_rows.specs.RowText.{fieldsText, keyText, Fields};
 ghost use Rattle.text_rows.specs.TableWords.{tableWord, tableNamed, namedTable};
+
+// ---- read from words
 
 // What a word names.
 pub enum Named {
@@ -24,20 +31,50 @@ pub enum Named {
 pub fn table_named(word: &[u8]) -> Named
     ensures { λ r. ⌜ namedTable r ≡ tableNamed (now (word .entry)) ⌝ }
 {
-    if octets::are_same(b"context", word) {
-        return Named::In(Table::Context);
+    match text_words::place_of(word, b"context mapping access view") {
+        0 => Named::In(Table::Context),
+        1 => Named::In(Table::Mapping),
+        2 => Named::In(Table::Access),
+        3 => Named::In(Table::View),
+        _ => Named::Other,
     }
-    if octets::are_same(b"mapping", word) {
-        return Named::In(Table::Mapping);
-    }
-    if octets::are_same(b"access", word) {
-        return Named::In(Table::Access);
-    }
-    if octets::are_same(b"view", word) {
-        return Named::In(Table::View);
-    }
-    Named::Other
 }
+
+// How many fields of a table an operation is handed: those of a row to put, or those of a key.
+fn field_count(o: Operation, t: Table) -> usize
+    ensures { λ r. ⌜ Counts r o t ⌝ }
+{
+    match o {
+        Operation::Put => rows::row_len(t),
+        Operation::Remove => rows::key_len(t),
+    }
+}
+
+// A table, up to where a lent buffer is filled with its row or key, and where the next word begins.
+pub enum Entered {
+    In(Table, usize, usize),
+    Malformed,
+}
+
+// The row or the key, as the operation has it, that the words from the one that begins at `at` on say, its bytes in `out` from `from` on.
+pub fn entry(o: Operation, line: &[u8], at: usize, out: &mut [u8], from: usize) -> Entered
+    requires { ⌜ Roomy (now line) at (now out) from ⌝ }
+    ensures { λ r. ⌜ Enters r from at (now (line .entry)) (now (out .entry)) (now (out .exit)) (entrySaid o (wordsFrom at (now (line .entry)))) ⌝ }
+{
+    let Word::To(end) = text_words::word_at(line, at) else {
+        return Entered::Malformed;
+    };
+    let Named::In(t) = table_named(&line[at..end]) else {
+        return Entered::Malformed;
+    };
+    let n = field_count(o, t);
+    let Placed::To(k, next) = text_fields::fields(t, n, line, end + 1, out, from) else {
+        return Entered::Malformed;
+    };
+    Entered::In(t, k, next)
+}
+
+// ---- told in words
 
 // The word that names a table.
 pub fn put_table(out: &mut [u8], at: usize, t: Table) -> usize
@@ -52,55 +89,40 @@ pub fn put_table(out: &mut [u8], at: usize, t: Table) -> usize
     }
 }
 
-// ---- read from words
-
-// The first `n` fields of a row, a word for each behind the one that ends at `end`, and no word over.
-pub fn fields(t: Table, n: usize, line: &[u8], end: usize, out: &mut [u8]) -> Filled
-    requires { ⌜ (n ≤ length (rowFields t)) × (rowMax < length (now out)) × (length (now line) ≤ mostLine) × (end ≤ length (now line)) ⌝ }
-    ensures { λ r. ⌜ Fills r (now (out .exit)) (rowSaid (take n (rowFields t)) (wordsAfter end (now (line .entry)))) ⌝ }
+// Where the field of form `f` that begins at `at` ends.
+fn field_end(f: Form, row: &[u8], at: usize) -> usize
+    requires { ⌜ fault (fieldOf f) (drop at (now row)) ≡ none ⌝ }
+    ensures { λ r. ⌜ FieldIn f (now (row .entry)) at r ⌝ }
 {
-    let mut i = 0;
-    let mut e = end;
-    let mut k = 0;
-    while i < n {
-        let Word::At(a, b) = text_words::next_word(line, e) else {
-            return Filled::Malformed;
-        };
-        let f = rows::form_at(t, i);
-        let Filled::Upto(m) = text_fields::field(f, &line[a..b], &mut out[k..]) else {
-            return Filled::Malformed;
-        };
-        k += m;
-        e = b;
-        i += 1;
+    match f {
+        Form::Name(_, _) => at + 1 + big_endian::wide(row[at]),
+        Form::Subtree(_, _) => at + 1 + 4 * big_endian::wide(row[at]),
+        Form::Large(_, _) => at + 4,
+        Form::Small(_, _) => at + 1,
     }
-    if e < line.len() {
-        return Filled::Malformed;
+}
+
+// The text of the field of form `f` that lies in `row` from `from` to `end`.
+fn put_field(out: &mut [u8], at: usize, f: Form, row: &[u8], from: usize, end: usize) -> usize
+    requires { ⌜ FieldIn f (now row) from end ⌝ }
+    requires { ⌜ at + length (fieldText (fieldOf f) (value (fieldOf f) (drop from (now row)))) ≤ length (now out) ⌝ }
+    ensures { λ r. ⌜ Puts (fieldText (fieldOf f) (value (fieldOf f) (drop from (now (row .entry))))) at (now (out .entry)) (now (out .exit)) r ⌝ }
+{
+    match f {
+        Form::Name(_, _) => text_values::put_name(out, at, &row[from + 1..end]),
+        Form::Subtree(_, _) => text_values::put_dotted_quads(out, at, &row[from + 1..end]),
+        Form::Large(_, _) => text_values::put_decimal(
+            out,
+            at,
+            big_endian::quad_at(row, from) as u64,
+        ),
+        Form::Small(_, _) => text_values::put_decimal(out, at, big_endian::wide(row[from]) as u64),
     }
-    Filled::Upto(k)
 }
-
-// The key that the words behind the one that ends at `end` say, at the front of `out`.
-pub fn key(t: Table, line: &[u8], end: usize, out: &mut [u8]) -> Filled
-    requires { ⌜ (rowMax < length (now out)) × (length (now line) ≤ mostLine) × (end ≤ length (now line)) ⌝ }
-    ensures { λ r. ⌜ Fills r (now (out .exit)) (rowSaid (keyFields t) (wordsAfter end (now (line .entry)))) ⌝ }
-{
-    fields(t, rows::key_len(t), line, end, out)
-}
-
-// The row that they say.
-pub fn row(t: Table, line: &[u8], end: usize, out: &mut [u8]) -> Filled
-    requires { ⌜ (rowMax < length (now out)) × (length (now line) ≤ mostLine) × (end ≤ length (now line)) ⌝ }
-    ensures { λ r. ⌜ Fills r (now (out .exit)) (rowSaid (rowFields t) (wordsAfter end (now (line .entry)))) ⌝ }
-{
-    fields(t, rows::row_len(t), line, end, out)
-}
-
-// ---- told in words
 
 // The first `n` fields of a row, each behind a space: `row` holds these and no more.
-pub fn put_fields(out: &mut [u8], at: usize, t: Table, n: usize, row: &[u8]) -> usize
-    requires { ⌜ (n ≤ length (rowFields t)) × (faults (take n (rowFields t)) (now row) ≡ none) ⌝ }
+fn put_fields(out: &mut [u8], at: usize, t: Table, n: usize, row: &[u8]) -> usize
+    requires { ⌜ Fields n t (now row) ⌝ }
     requires { ⌜ at + length (fieldsText (take n (rowFields t)) (values (take n (rowFields t)) (now row))) ≤ length (now out) ⌝ }
     ensures { λ r. ⌜ Puts (fieldsText (take n (rowFields t)) (values (take n (rowFields t)) (now (row .entry)))) at (now (out .entry)) (now (out .exit)) r ⌝ }
 {
@@ -109,9 +131,9 @@ pub fn put_fields(out: &mut [u8], at: usize, t: Table, n: usize, row: &[u8]) -> 
     let mut k = 0;
     while i < n {
         let f = rows::form_at(t, i);
-        let end = text_fields::field_end(f, row, k);
+        let end = field_end(f, row, k);
         let next = text_values::put_octet(out, o, b' ');
-        o = text_fields::put_field(out, next, f, row, k, end);
+        o = put_field(out, next, f, row, k, end);
         k = end;
         i += 1;
     }

@@ -1,2 +1,3 @@
 pub mod Words
-pub mod NextWord
+pub mod WordsFrom
+pub mod Named

@@ -4,13 +4,13 @@
 use mathlib.Core.Path.{_≡_, refl, sym, ap, _∙_}
 use mathlib.Core.Bool.{Bool, true, false, _&&_}
 use mathlib.Core.List.{List, [], _∷_, _++_, append-nil}
-use mathlib.Core.Option.{Option, none, some, Option·map}
+use mathlib.Core.Option.{Option, none, some}
 use Prim.Native.Nat.{ℕ, suc, _+_, _-_, _*_, _≤_, _<_}
 use native.Mathlib.Omega.{arith}
 use native.Mathlib.Numerals.{add-one}
 use lib.Dec.{eqb, ltb}
-use lib.ListN.{length, take, drop, set, getD, length-drop, length-set, drop-of-length-le}
-use lib.Seq.{drop-cons, drop-drop, take-suc-set, take-length, append-snoc}
+use lib.ListN.{length, take, drop, set, getD, length-drop, length-set, length-append, drop-of-length-le}
+use lib.Seq.{length-take-le, drop-cons, drop-drop, take-suc-set, take-length, append-snoc}
 use borrow.Author.Tests.{eq-eqb, ne-eqb, lt-ltb, le-ltb, ltb-true, ltb-false}
 use Rattle.bytes.specs.Bytes.{slice, indexAfter, indexOf}
 use Rattle.lists.specs.Order.{same}
@@ -23,7 +23,7 @@ use Rattle.text_words.specs.declared.Number.the-variants.{Of, Bad}
 use Rattle.text_words.specs.declared.Filled.{Filled}
 use Rattle.text_words.specs.declared.Filled.the-variants.{Upto, Malformed}
 use Rattle.text_words.specs.Words.{between, longer, split, run, digitsFrom, below32, decimal, numberOf, also, dash, hexDigit, hexPair, hexPairs}
-use Rattle.text_words.specs.Words.{hexOctets, decimals, dotted, Fills}
+use Rattle.text_words.specs.Words.{hexOctets, decimals, dotted, behind, Fills}
 
 -- ---- how far the first mark stands
 
@@ -164,18 +164,13 @@ module _ {w : List ℕ} {i n : ℕ} (r : Reading w i n) where
 
 -- ---- what is read part by part
 
--- what stands in front, if the rest says anything
-abbrev behind : List ℕ → Option (List ℕ) → Option (List ℕ)
-behind xs o = Option·map (λ ys. xs ++ ys) o
-
 -- n elements of `out` and then what is left make all
 pub record Reads (all : Option (List ℕ)) (out : List ℕ) (n : ℕ) (left : Option (List ℕ)) : Type 0 where
   pub inside : n ≤ length out
   pub makes : all ≡ behind (take n out) left
 
-pub reads-start : (all : Option (List ℕ)) (out : List ℕ) → Reads all out 0 all
-reads-start none out = record { inside = omega arith; makes = refl }
-reads-start (some xs) out = record { inside = omega arith; makes = refl }
+pub reads-start : (said : Option (List ℕ)) (out : List ℕ) (from : ℕ) → from ≤ length out → Reads (behind (take from out) said) out from said
+reads-start said out from h = record { inside = h; makes = refl }
 
 put-next : (all : Option (List ℕ)) (out : List ℕ) (n x : ℕ) (left : Option (List ℕ)) → all ≡ behind (take n out) (also (some x) left) → n < length out
     → all ≡ behind (take (n + 1) (set out n x)) left
@@ -184,8 +179,8 @@ put-next all out n x (some xs) e h = e ∙ ap some (sym (rw (add-one, take-suc-s
 
 module _ {all : Option (List ℕ)} {out : List ℕ} {n : ℕ} where
   module _ {left : Option (List ℕ)} (r : Reads all out n left) where
-    pub reads-none : left ≡ none → Fills Malformed out all
-    reads-none e = record { is = sym (r .makes ∙ rw e); inside = omega arith }
+    pub reads-none : left ≡ none → all ≡ none
+    reads-none e = r .makes ∙ rw e
 
     module _ (part : Option ℕ) (rest : Option (List ℕ)) (e : left ≡ also part rest) where
       -- the next part says x
@@ -194,23 +189,39 @@ module _ {all : Option (List ℕ)} {out : List ℕ} {n : ℕ} where
           let m : left ≡ also (some x) rest = e ∙ ap (λ u. also u rest) q in
           record { inside = simp length-set (omega arith); makes = put-next all out n x rest (r .makes ∙ ap (behind (take n out)) m) h }
 
-      pub reads-bad : part ≡ none → Fills Malformed out all
+      pub reads-bad : part ≡ none → all ≡ none
       reads-bad q = reads-none (e ∙ ap (λ u. also u rest) q)
 
-    pub reads-end : left ≡ some [] → Fills (Upto n) out all
-    reads-end e = record { is = sym (r .makes ∙ rw e (ap some (append-nil (take n out)))); inside = r .inside }
+    pub reads-end : left ≡ some [] → all ≡ some (take n out)
+    reads-end e = r .makes ∙ rw e (ap some (append-nil (take n out)))
+
+-- what was read, and what was not
+module _ (from most : ℕ) (found out : List ℕ) {said : Option (List ℕ)} where
+  pub fills-not : behind (take from found) said ≡ none → Fills Malformed from most found out said
+  fills-not e = record { is = sym e; inside = omega arith; short = omega arith }
+
+  pub unsaid : said ≡ none → Fills Malformed from most found out said
+  unsaid e = fills-not (rw e)
+
+  pub fills-upto : (n : ℕ) → behind (take from found) said ≡ some (take n out) → n ≤ length out → n ≤ from + most
+      → Fills (Upto n) from most found out said
+  fills-upto n e h k = record { is = sym e; inside = h; short = k }
+
+  pub fills-said : (n : ℕ) (x : List ℕ) → said ≡ some x → take n out ≡ take from found ++ x → n ≤ length out → n ≤ from + most
+      → Fills (Upto n) from most found out said
+  fills-said n x e t h k = fills-upto n (rw e (ap some (sym t))) h k
 
 -- ---- a name
 
-pub hex-empty : (w out : List ℕ) → length w ≡ 0 → Fills Malformed out (hexOctets w)
+pub hex-empty : (w : List ℕ) → length w ≡ 0 → hexOctets w ≡ none
 unfolding hexOctets
-hex-empty [] out h = record { is = refl; inside = omega arith }
-hex-empty (c ∷ cs) out h = absurd (omega arith)
+hex-empty [] h = refl
+hex-empty (c ∷ cs) h = absurd (omega arith)
 
-pub hex-dash : (w out : List ℕ) → same w dash ≡ true → Fills (Upto 0) out (hexOctets w)
+pub hex-dash : (w : List ℕ) → same w dash ≡ true → hexOctets w ≡ some []
 unfolding hexOctets same
-hex-dash [] out h = clash h refl
-hex-dash (c ∷ cs) out h = record { is = sym (rw h); inside = omega arith }
+hex-dash [] h = clash h refl
+hex-dash (c ∷ cs) h = rw h
 
 pub hex-some : (w : List ℕ) → (length w ≡ 0 → ⊥) → same w dash ≡ false → hexOctets w ≡ hexPairs w
 unfolding hexOctets
@@ -238,9 +249,13 @@ module _ (w : List ℕ) (i : ℕ) where
 
 -- ---- an identifier
 
-pub dotted-dash : (w out : List ℕ) → same w dash ≡ true → Fills (Upto 0) out (dotted w)
+pub dotted-dash : (w : List ℕ) → same w dash ≡ true → dotted w ≡ some []
 unfolding dotted
-dotted-dash w out h = record { is = sym (rw h); inside = omega arith }
+dotted-dash w h = rw h
+
+-- `-` is the empty one
+pub dash-fills : (from most : ℕ) (found : List ℕ) {said : Option (List ℕ)} → said ≡ some [] → from ≤ length found → Fills (Upto from) from most found found said
+dash-fills from most found e h = fills-upto from most found found from (rw e (ap some (append-nil (take from found)))) h (omega arith)
 
 pub dotted-some : (w : List ℕ) → same w dash ≡ false → dotted w ≡ decimals (split 46 w)
 unfolding dotted
@@ -317,12 +332,45 @@ pub number-bad : {r : Number} {o : Option ℕ} → r ≡ Bad → numberOf r ≡ 
 number-bad e q = sym q ∙ ap numberOf e
 
 -- what was read into a buffer
-module _ {filled : Filled} {out : List ℕ} {said : Option (List ℕ)} (f : Fills filled out said) where
-  pub filled-is : (n : ℕ) → filled ≡ Upto n → said ≡ some (take n out)
-  filled-is n e = sym (f .is) ∙ rw e
+pub never : {P A : Type 0} {x : A} → none ≡ some x → P
+never {P} {A} {x} e = let z : _≡_ {A = ℕ} 0 1 = cc in absurd (omega arith)
 
-  pub filled-in : (n : ℕ) → filled ≡ Upto n → n ≤ length out
-  filled-in n e = rw e at (f .inside)
+pub record Filling (n from : ℕ) (found out : List ℕ) (said : Option (List ℕ)) : Type 0 where
+  pub of : List ℕ
+  pub is : said ≡ some of
+  pub front-is : take n out ≡ take from found ++ of
+  pub ends : n ≡ from + length of
+  pub inside : n ≤ length out
 
-  pub filled-bad : filled ≡ Malformed → said ≡ none
-  filled-bad e = sym (f .is) ∙ rw e
+module _ {from most : ℕ} {found out : List ℕ} where
+  upto-by : (n : ℕ) (said : Option (List ℕ)) → Fills (Upto n) from most found out said → from ≤ length found → Filling n from found out said
+  upto-by n none f h = never (sym (f .is))
+  upto-by n (some x) f h =
+      let q : take n out ≡ take from found ++ x = cc (f .is) in
+      let a = length-take-le n out (f .inside) in
+      let b = length-take-le from found h in
+      record { of = x; is = refl; front-is = q; ends = omega (arith, simp length-append at (ap length q)); inside = f .inside }
+
+  module _ {filled : Filled} {said : Option (List ℕ)} (f : Fills filled from most found out said) where
+    pub filled-upto : {n : ℕ} → filled ≡ Upto n → from ≤ length found → Filling n from found out said
+    filled-upto {n} e h = upto-by n said (rw (← e) f) h
+
+    pub filled-short : {n : ℕ} → filled ≡ Upto n → n ≤ from + most
+    filled-short e = rw e at (f .short)
+
+    pub filled-not : filled ≡ Malformed → said ≡ none
+    filled-not e = not-by said (rw (← e) f)
+      where
+        not-by : (said : Option (List ℕ)) → Fills Malformed from most found out said → said ≡ none
+        not-by none g = refl
+        not-by (some x) g = never (g .is)
+
+-- what was read into a buffer from its front on
+pub record Whole (n : ℕ) (out : List ℕ) (said : Option (List ℕ)) : Type 0 where
+  pub is : said ≡ some (take n out)
+  pub size : length (take n out) ≡ n
+
+pub filled-whole : {filled : Filled} {most : ℕ} {found out : List ℕ} {said : Option (List ℕ)} {n : ℕ} → Fills filled 0 most found out said
+    → filled ≡ Upto n → Whole n out said
+filled-whole {filled} {most} {found} {out} f e =
+    let g = filled-upto f e (omega arith) in record { is = g .is ∙ ap some (sym (g .front-is)); size = length-take-le _ out (g .inside) }

@@ -2,15 +2,15 @@
 -- Octets are ASCII: 32 space, 45 `-`, 46 `.`, 48 to 57 the digits. Assumes nothing.
 use mathlib.Core.Path.{_≡_}
 use mathlib.Core.Bool.{cond}
-use mathlib.Core.List.{List, [], _∷_}
-use mathlib.Core.Option.{Option, none, some}
+use mathlib.Core.List.{List, [], _∷_, _++_}
+use mathlib.Core.Option.{Option, none, some, Option·map}
 use Prim.Native.Nat.{ℕ, suc, _+_, _-_, _*_, _≤_}
-use lib.Dec.{eqb, ltb}
+use lib.Dec.{eqb, ltb, leb}
 use lib.ListN.{length, take, drop}
 use Rattle.lists.specs.Order.{same}
 use Rattle.rows.specs.Fields.{within}
 use Rattle.text_words.specs.declared.Word.{Word}
-use Rattle.text_words.specs.declared.Word.the-variants.{At, Missing}
+use Rattle.text_words.specs.declared.Word.the-variants.{To, Missing}
 use Rattle.text_words.specs.declared.Number.{Number}
 use Rattle.text_words.specs.declared.Number.the-variants.{Of, Bad}
 use Rattle.text_words.specs.declared.Filled.{Filled}
@@ -18,9 +18,9 @@ use Rattle.text_words.specs.declared.Filled.the-variants.{Upto, Malforme
 
 -- ---- words
 
--- the most octets of a line
-abbrev pub mostLine : ℕ
-mostLine = 2048
+-- the most octets of a line, its newline not counted
+abbrev pub longest : ℕ
+longest = 2048
 
 -- the octets from one place up to another
 abbrev pub between : ℕ → ℕ → List ℕ → List ℕ
@@ -40,18 +40,27 @@ split mark (x ∷ xs) = cond (eqb x mark) ([] ∷ split mark xs) (longer x (spli
 abbrev pub words : List ℕ → List (List ℕ)
 words line = split 32 line
 
--- the words behind the one that ends at e: none where the line ends there, too
-unfoldable pub wordsAfter : ℕ → List ℕ → List (List ℕ)
-wordsAfter e line = cond (ltb e (length line)) (words (drop (suc e) line)) []
+-- the words from the one that begins at a place on: behind the line's end there is none
+unfoldable pub wordsFrom : ℕ → List ℕ → List (List ℕ)
+wordsFrom at line = cond (leb at (length line)) (words (drop at line)) []
+
+-- the place of a word among others; behind them all, where it is none of them
+unfoldable pub place : List ℕ → List (List ℕ) → ℕ
+place w [] = 0
+place w (v ∷ vs) = cond (same v w) 0 (suc (place w vs))
 
 -- how many octets stand before the first mark
 unfoldable pub run : ℕ → List ℕ → ℕ
 run mark [] = 0
 run mark (x ∷ xs) = cond (eqb x mark) 0 (suc (run mark xs))
 
--- the code's answer: where the word behind the one that ends at e begins and ends
+-- the code's answers: where the first mark from `at` on stands, or the end; and where the word that begins at `at` ends
+pub record Ends (mark : ℕ) (s : List ℕ) (at r : ℕ) : Type 0 where
+  pub ends : r ≡ at + run mark (drop at s)
+  pub inside : r ≤ length s
+
 unfoldable pub wordAt : ℕ → List ℕ → Word
-wordAt e line = cond (ltb e (length line)) (At (e + 1) (e + 1 + run 32 (drop (e + 1) line))) Missing
+wordAt at line = cond (leb at (length line)) (To (at + run 32 (drop at line))) Missing
 
 -- ---- a number: one or more digits, its value below 2^32
 
@@ -113,7 +122,7 @@ decimals (p ∷ ps) = also (decimal p) (decimals ps)
 unfoldable pub dotted : List ℕ → Option (List ℕ)
 dotted word = cond (same word dash) (some []) (decimals (split 46 word))
 
--- ---- what the code reads into a lent buffer: it stands at the buffer's front
+-- ---- what the code reads into a lent buffer, behind what stands at its front
 
 abbrev pub upto : Filled → ℕ
 upto (Upto n) = n
@@ -123,6 +132,12 @@ abbrev pub front : Filled → List ℕ → Option (List ℕ)
 front (Upto n) out = some (take n out)
 front Malformed out = none
 
-pub record Fills (filled : Filled) (out : List ℕ) (said : Option (List ℕ)) : Type 0 where
-  pub is : front filled out ≡ said
+-- what stands in front, if anything is said
+abbrev pub behind : List ℕ → Option (List ℕ) → Option (List ℕ)
+behind xs o = Option·map (λ ys. xs ++ ys) o
+
+-- of `found` the first `from` stay, and what is said stands behind them, `most` at most
+pub record Fills (filled : Filled) (from most : ℕ) (found out : List ℕ) (said : Option (List ℕ)) : Type 0 where
+  pub is : front filled out ≡ behind (take from found) said
   pub inside : upto filled ≤ length out
+  pub short : upto filled ≤ from + most

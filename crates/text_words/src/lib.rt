@@ -1,10 +1,13 @@
 // The words of a line and what each says: a number, a name in hex, an identifier. The desk programs share them.
 ghost use mathlib.Core.Path.{_≡_};
-ghost use Prim.Native.Nat.{_+_, _*_, _≤_, _<_};
-ghost use lib.ListN.{length, drop};
+ghost use Prim.Native.Nat.{_+_, _≤_};
+ghost use lib.ListN.{length};
 ghost use Rattle.lists.specs.Order.{same};
-ghost use Rattle.text_words.specs.Words.{run, wordAt, dash, hexDigit, hexPair, hexOctets, numberOf, Fills, decimal as Words·decimal};
+ghost use Rattle.text_words.specs.Words.{Ends, words, wordAt, place, dash, hexDigit, hexPair, hexOctets, numberOf, Fills, decimal as Words·decimal};
 ghost use Rattle.text_words.specs.Words.{dotted as Words·dotted};
+
+// The longest line, in octets, its newline not counted.
+pub const LONGEST_LINE: usize = 2048;
 
 // The number that a word says, below 2^32.
 pub enum Number {
@@ -12,13 +15,13 @@ pub enum Number {
     Bad,
 }
 
-// Where a word begins and ends.
+// Where a word ends.
 pub enum Word {
-    At(usize, usize),
+    To(usize),
     Missing,
 }
 
-// How much of a lent buffer was filled from its front.
+// Up to where a lent buffer is filled.
 pub enum Filled {
     Upto(usize),
     Malformed,
@@ -27,28 +30,36 @@ pub enum Filled {
 // Where the first `mark` from `at` on stands, or the end of `s`.
 pub fn end_of(s: &[u8], at: usize, mark: u8) -> usize
     requires { ⌜ at ≤ length (now s) ⌝ }
-    ensures { λ r. ⌜ (r ≡ at + run mark (drop at (now (s .entry)))) × (r ≤ length (now (s .entry))) ⌝ }
+    ensures { λ r. ⌜ Ends mark (now (s .entry)) at r ⌝ }
 {
     bytes::scan::find(s, at, s.len(), mark)
 }
 
-// The end of the word that begins at `at`.
-pub fn word_end(line: &[u8], at: usize) -> usize
-    requires { ⌜ at ≤ length (now line) ⌝ }
-    ensures { λ r. ⌜ (r ≡ at + run 32 (drop at (now (line .entry)))) × (r ≤ length (now (line .entry))) ⌝ }
+// Where the word that begins at `at` ends. Behind the line's end there is none.
+pub fn word_at(line: &[u8], at: usize) -> Word
+    ensures { λ r. ⌜ r ≡ wordAt at (now (line .entry)) ⌝ }
 {
-    end_of(line, at, b' ')
-}
-
-// The word behind the one that ends at `end`.
-pub fn next_word(line: &[u8], end: usize) -> Word
-    ensures { λ r. ⌜ r ≡ wordAt end (now (line .entry)) ⌝ }
-{
-    if line.len() <= end {
+    if line.len() < at {
         return Word::Missing;
     }
-    let at = end + 1;
-    Word::At(at, word_end(line, at))
+    Word::To(end_of(line, at, b' '))
+}
+
+// The place of a word among the words of a list; behind them all, where it is none of them.
+pub fn place_of(word: &[u8], list: &[u8]) -> usize
+    ensures { λ r. ⌜ r ≡ place (now (word .entry)) (words (now (list .entry))) ⌝ }
+{
+    let mut at = 0;
+    let mut n = 0;
+    while at <= list.len() {
+        let end = end_of(list, at, b' ');
+        if octets::are_same(&list[at..end], word) {
+            return n;
+        }
+        n += 1;
+        at = end + 1;
+    }
+    n
 }
 
 // The number that a word says.
@@ -115,19 +126,19 @@ fn hex_pair(a: u8, b: u8) -> Number
     Number::Of(h * 16 + l)
 }
 
-// The name that a word says in hex, into `out`. An octet takes two digits.
-pub fn hex_octets(word: &[u8], out: &mut [u8]) -> Filled
-    requires { ⌜ length (now word) ≤ 2 * length (now out) ⌝ }
-    ensures { λ r. ⌜ Fills r (now (out .exit)) (hexOctets (now (word .entry))) ⌝ }
+// The name that a word says in hex, into `out` from `from` on. An octet takes two digits.
+pub fn hex_octets(word: &[u8], out: &mut [u8], from: usize) -> Filled
+    requires { ⌜ from + length (now word) ≤ length (now out) ⌝ }
+    ensures { λ r. ⌜ Fills r from (length (now (word .entry))) (now (out .entry)) (now (out .exit)) (hexOctets (now (word .entry))) ⌝ }
 {
     if word.len() == 0 {
         return Filled::Malformed;
     }
     if is_dash(word) {
-        return Filled::Upto(0);
+        return Filled::Upto(from);
     }
     let mut i = 0;
-    let mut n = 0;
+    let mut n = from;
     while i < word.len() {
         let j = i + 1;
         if j == word.len() {
@@ -143,16 +154,16 @@ pub fn hex_octets(word: &[u8], out: &mut [u8]) -> Filled
     Filled::Upto(n)
 }
 
-// The identifier that a word says, into `out`. But for the last, a part takes a digit and a dot at least.
-pub fn dotted(word: &[u8], out: &mut [u32]) -> Filled
-    requires { ⌜ length (now word) ≤ 2 * length (now out) ⌝ }
-    ensures { λ r. ⌜ Fills r (now (out .exit)) (Words·dotted (now (word .entry))) ⌝ }
+// The identifier that a word says, into `out` from `from` on. But for the last, a part takes a digit and a dot at least.
+pub fn dotted(word: &[u8], out: &mut [u32], from: usize) -> Filled
+    requires { ⌜ from + length (now word) ≤ length (now out) ⌝ }
+    ensures { λ r. ⌜ Fills r from (length (now (word .entry))) (now (out .entry)) (now (out .exit)) (Words·dotted (now (word .entry))) ⌝ }
 {
     if is_dash(word) {
-        return Filled::Upto(0);
+        return Filled::Upto(from);
     }
     let mut at = 0;
-    let mut n = 0;
+    let mut n = from;
     loop {
         let end = end_of(word, at, b'.');
         let Number::Of(x) = decimal(&word[at..end]) else {

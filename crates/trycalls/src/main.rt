@@ -1,20 +1,20 @@
 // The program `trycalls`: the calls of standard input, a line each, played on the tables of `tables.bin`, for practice at a desk.
+use call_lines::FAULT_ROOM;
+use call_lines::TOLD_ROOM;
 use image::ROOM;
 use image_transfer::Loaded;
 use libc::STDOUT_FILENO;
 use program_input::MOST_READS;
 use program_input::PIECE_ROOM;
-use request_words::LONGEST_LINE;
-ghost use mathlib.Core.Path.{_≡_};
-ghost use Prim.Native.Nat.{_+_, _≤_, _<_};
+use text_words::LONGEST_LINE;
+ghost use Prim.Native.Nat.{_≤_};
 ghost use lib.ListN.{length};
-
-// What is told of a call has room here: two digits to each octet of the largest image, a line's number, a space and a newline.
-const TOLD_ROOM: usize = 95100;
+ghost use Rattle.call_lines.specs.Plays.{lineRoom};
+ghost use Rattle.trycalls.specs.Pieces.{Ready, Goes, Begins, Taken};
 
 // A line's number, its answer and a newline.
 fn answer(store: &mut [u8], number: u64, line: &[u8], out: &mut [u8])
-    requires { ⌜ 95100 ≤ length (now out) ⌝ }
+    requires { ⌜ lineRoom ≤ length (now out) ⌝ }
 {
     let n = call_lines::answer_line(store, number, line, out);
     io::write_all(STDOUT_FILENO, &out[0..n]);
@@ -35,9 +35,8 @@ fn take_line(
     line: &mut [u8],
     out: &mut [u8],
 ) -> Progress
-    requires { ⌜ (p .begun ≤ length (now line)) × (p .at < length (now piece)) × (95100 ≤ length (now out)) × (p .number < 18446744073709551615) ⌝ }
-    ensures { λ r. ⌜ (r .begun ≤ length (now (line .exit))) × (p .at < r .at) × (r .at ≤ length (now (piece .entry))) ×
-        (r .number + p .at ≤ p .number + r .at) ⌝ }
+    requires { ⌜ Ready p (now line) (now piece) (now out) ⌝ }
+    ensures { λ r. ⌜ Goes p r (now (line .exit)) (now (piece .entry)) ⌝ }
 {
     let number = p.number;
     let c = program_input::continue_line(line, p.begun, piece, p.at);
@@ -65,8 +64,8 @@ fn take_piece(
     line: &mut [u8],
     out: &mut [u8],
 ) -> Progress
-    requires { ⌜ (p .begun ≤ length (now line)) × (95100 ≤ length (now out)) × (p .number + length (now piece) < 18446744073709551616) ⌝ }
-    ensures { λ r. ⌜ (r .begun ≤ length (now (line .exit))) × (r .number ≤ p .number + length (now (piece .entry))) ⌝ }
+    requires { ⌜ Begins p (now line) (now piece) (now out) ⌝ }
+    ensures { λ r. ⌜ Taken p r (now (line .exit)) (now (piece .entry)) ⌝ }
 {
     let mut q = Progress {
         number: p.number,
@@ -113,7 +112,7 @@ fn main() {
     match loaded {
         Loaded::Done => serve(&mut store),
         Loaded::Faulty(f) => {
-            let mut out = [0u8; 64];
+            let mut out = [0u8; FAULT_ROOM];
             let n = call_lines::answer_fault(f, &mut out);
             io::write_all(STDOUT_FILENO, &out[0..n]);
         }

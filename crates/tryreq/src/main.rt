@@ -7,13 +7,13 @@ use program_input::MOST_READS;
 use program_input::PIECE_ROOM;
 use request_lines::MOST_TOLD;
 use request_lines::Progress;
-use request_words::LONGEST_LINE;
+use text_words::LONGEST_LINE;
 ghost use mathlib.Core.Path.{_≡_};
 ghost use Prim.Native.Nat.{suc, _+_, _≤_, _<_};
 ghost use lib.ListN.{length, take};
 ghost use Rattle.image_judge.specs.Faults.{SoundLayout};
 ghost use Rattle.text_words.specs.Words.{run};
-ghost use Rattle.request_words.specs.Requests.{longest};
+ghost use Rattle.text_words.specs.Words.{longest};
 ghost use Rattle.request_lines.specs.Lines.{mostTold, numberEnd};
 
 // Writes what is told of a refused image.

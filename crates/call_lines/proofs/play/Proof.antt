@@ -1,17 +1,18 @@
--- The call that is read is the one that the line says. Assumes nothing.
-use Rattle.call_lines.proofs.Plays.{plays-as}
+-- `call_lines::play` meets its contract: what is read is what the line says, and each slot lies in its buffer. Assumes nothing.
 use borrow.Author.Needs.{needs}
+use Rattle.call_words.proofs.Calls.{call-held, call-fit}
+use Rattle.call_lines.proofs.Plays.{plays-as}
 use Rattle.call_lines.proofs.play.Statement.{statement}
 use Rattle.call_lines.proofs.play.Tie as tie
 
+play-call-requires : tie.Need-play-call-requires
+play-call-requires c κs = let r = c .before .before .before .before .before .before .before in (call-fit (r .read-call .ensures), r .before .before .before .before .before .before .pre)
+
 returns : tie.Need-returns
-returns c =
-    let at-play-call = c .before .before .before .before in
-    let at-read-call = at-play-call .before .before .before .before .before .before .before .before .before in
-    plays-as (at-read-call .read-call .ensures .is) (at-play-call .play-call .ensures)
+returns c = let p = c .before .before .before .before in plays-as (call-held (p .before .before .before .before .before .before .before .before .read-call .ensures)) (p .play-call .ensures)
 
 pub play-spec : {M : Type 1} → statement M
 play-spec =
     tie.close
-    (tie.spec (λ c. search needs) (λ c. search needs) (λ c. search needs) (λ c κs. search needs) (λ c. search needs)
-    (λ c. search needs) (λ c. search needs) (λ c κs. search needs) (λ c. search needs) (λ c. search needs) returns)
+    (tie.spec (λ c. search needs) (λ c. search needs) (λ c κs. search needs) (λ c. search needs) (λ c. search needs)
+    play-call-requires (λ c. search needs) (λ c. search needs) returns)

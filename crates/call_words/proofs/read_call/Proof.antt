@@ -1,28 +1,72 @@
--- The line's first word is the verb, and what its words say is the call; a line that is too long says none. Assumes nothing.
-use Rattle.call_words.proofs.Calls.{reads-nothing, line-long, line-is}
+-- `call_words::read_call` meets its contract: the first word names what the line asks for, and the fields behind it are read by its kinds.
+-- Assumes nothing.
+use mathlib.Core.Path.{_≡_, sym, ap, _∙_}
+use Prim.Native.Nat.{_+_, _≤_, _<_}
+use native.Mathlib.Omega.{arith}
+use lib.ListN.{length, take}
 use borrow.Author.Needs.{needs}
+use Rattle.lists.proofs.Bools.{not-true, not-false}
+use Rattle.text_words.specs.Words.{longest, wordsFrom}
+use Rattle.text_words.proofs.WordsFrom.{WordAt, word-from}
+use Rattle.line_fields.specs.Kinds.{valuesSaid}
+use Rattle.line_fields.specs.Slots.{Kinds, ReadsFields}
+use Rattle.call_words.specs.Calls.{kindsOf}
+use Rattle.call_words.proofs.Calls.{kinds-few, long-line, reads-nothing, line-nothing, line-reads}
 use Rattle.call_words.proofs.read_call.Statement.{statement}
 use Rattle.call_words.proofs.read_call.Tie as tie
 
+abbrev start : tie.After-end-of → tie.Start
+start c = c .before .before .before .before .before
+
+-- the first word
+first : (c : tie.After-end-of) → WordAt 0 (start c .args .line .now) (c .end-of .result)
+first c = word-from _ _ _ (omega arith) (c .end-of .ensures)
+
+-- what was read behind it
+read : (c : tie.After-read) → let n = c .before .before .before in
+    let v = n .before .before in
+    let e = v .before .before in
+    ReadsFields (c .read .result) (kindsOf (v .verb-named .result)) (c .read .last .1 .1 .1 .1 .0) (c .read .last .1 .1 .1 .1 .1 .0)
+    (valuesSaid (kindsOf (v .verb-named .result)) (wordsFrom (e .end-of .result + 1) (start e .args .line .now)))
+read c =
+    let n = c .before .before .before in
+    rw (ap (λ k. take k (n .before .kinds-of .result)) (n .field-count .ensures) ∙ n .before .kinds-of .ensures .first-are) at (c .read .ensures)
+
 returns : tie.Need-returns
-returns c =
-    let a = c .before .before .before .before .before .args in
-    reads-nothing (a .name .now) (a .bytes .now) (a .variable .now) (line-long (a .line .now) (c .if1 .taken))
+returns c = reads-nothing _ _ (long-line _ (omega (arith, c .before .if1 .taken)))
+
+read-requires : tie.Need-read-requires
+read-requires c κs = let n = c .before .before in
+    let e = n .before .before .before .before in
+    let s = start e in (
+      record {
+        few = omega (arith, n .field-count .ensures, kinds-few (n .before .before .verb-named .result));
+        inside =
+            omega (arith, n .field-count .ensures, kinds-few (n .before .before .verb-named .result), n .before .kinds-of .ensures .room);
+      },
+      record {
+        line-short = e .before .if1 .left;
+        at-in = omega (arith, e .end-of .ensures .inside);
+        bytes-room = s .pre .bytes-room;
+        parts-room = s .pre .parts-room;
+      },
+    )
 
 returns-2 : tie.Need-returns-2
-returns-2 c =
-    let at-read-verb = c .before .before .before .before .before .before in
-    let at-verb-named = at-read-verb .before .before .before .before in
-    let at-word-end = at-verb-named .before .before in
-    let else1 = at-word-end .before in
-    let start = else1 .before .before .before .before .before in
-    let a = start .args in
-    let w = at-word-end .word-end in
-    rw (line-is (a .line .now) (w .result) (else1 .if1 .left) (w .ensures .0))
-    (rw (at-verb-named .verb-named .ensures) at (at-read-verb .read-verb .ensures))
+returns-2 c = let r = c .before .before .before .before .before .before .before in
+    let v = r .before .before .before .before .before in
+    let e = v .before .before in
+    reads-nothing _ _ (line-nothing _ (e .before .if1 .left) (first e) (v .verb-named .ensures) (read r .not-whole (not-true _ (c .if2 .taken))))
+
+returns-3 : tie.Need-returns-3
+returns-3 c = let r = c .before .before .before .before .before .before .before in
+    let v = r .before .before .before .before .before in
+    let e = v .before .before in
+    line-reads _ (e .before .if1 .left) (first e) (v .verb-named .ensures) (read r .whole-is (not-false _ (c .if2 .left)))
 
 pub read-call-spec : {M : Type 1} → statement M
 read-call-spec =
     tie.close
-    (tie.spec returns (λ c κs. search needs) (λ c. search needs) (λ c. search needs) (λ c. search needs) (λ c κs. search needs)
-    (λ c κs. search needs) (λ c. search needs) (λ c. search needs) (λ c. search needs) returns-2)
+    (tie.spec (λ c κs. search needs) returns (λ c κs. search needs) (λ c. search needs) (λ c. search needs) (λ c. search needs)
+    (λ c κs. search needs) (λ c κs. search needs) (λ c κs. search needs) (λ c. search needs) read-requires (λ c. search needs)
+    (λ c. search needs) returns-2 (λ c. search needs) (λ c. search needs) returns-3)

@@ -15,12 +15,12 @@ returns c = let f = c .before .before .before .before .before .before in
     let a = f .before .before .before .args in
     let n = c .before .before .before .before .before .least in
     let v = drop (a .at) (a .piece .now) in
-    let e : f .end-of .result - a .at ≡ run 10 v = omega (arith, f .end-of .ensures .0) in
+    let e : f .end-of .result - a .at ≡ run 10 v = omega (arith, f .end-of .ensures .ends) in
     let m : n .result ≡ min (run 10 v) (length (a .line .now) - a .begun) = rw e at (n .ensures) in
     let t : a .at + n .result - a .at ≡ n .result = omega arith in
     record {
-      ends = f .end-of .ensures .0;
-      ends-in = f .end-of .ensures .1;
+      ends = f .end-of .ensures .ends;
+      ends-in = f .end-of .ensures .inside;
       holds =
           continue-made (a .line .now) (c .before .before .copy-in .last .0) v (a .begun) (run 10 v) (n .result) (f .before .before .before .pre .0)
           (run-most 10 v) m (rw t at (c .before .before .copy-in .ensures));

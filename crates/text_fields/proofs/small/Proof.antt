@@ -1,44 +1,38 @@
--- `text_fields::small` meets its contract: the number in range, and its byte; the range ends below 256. Assumes nothing.
-use mathlib.Core.Option.{some}
-use mathlib.Core.Path.{_≡_}
-use Prim.Native.Nat.{_≤_}
+-- `text_fields::small` meets its contract: the number's byte, where one holds it. Assumes nothing.
+use mathlib.Core.Path.{_≡_, ap, _∙_}
+use Prim.Native.Nat.{_+_, _<_}
 use native.Mathlib.Omega.{arith}
-use lib.ListN.{length-set}
+use native.Mathlib.Numerals.{add-one}
+use lib.ListN.{length, length-set}
+use lib.Seq.{take-suc-set}
 use borrow.Author.Needs.{needs}
-use Rattle.text_words.proofs.Words.{number-is, number-bad}
-use Rattle.text_words.specs.Words.{decimal}
-use Rattle.big_endian.specs.BigEndian.{octet}
-use Rattle.text_fields.specs.FieldWords.{ranged}
-use Rattle.text_fields.proofs.FieldWords.{unnumbered, numbered, number-most}
-use Rattle.text_fields.proofs.Buffers.{put-one}
+use Rattle.big_endian.specs.BigEndian.{octet, bytes}
+use Rattle.text_words.proofs.Words.{number-is, number-bad, unsaid, fills-said}
+use Rattle.text_fields.proofs.FieldWords.{numbered-none, numbered-over, numbered-some}
 use Rattle.text_fields.proofs.small.Statement.{statement}
 use Rattle.text_fields.proofs.small.Tie as tie
 
-abbrev start : (c : tie.After-known-told) → tie.Start
-start c = c .before .before .before .before .before .before
-
-read : (c : tie.After-known-told) → let s = start c .args in
-    ranged (s .lo) (s .hi) (decimal (s .word .now)) ≡ some (c .before .x .given .0 .0)
-read c = number-is _ (c .before .x .given .1) (c .before .before .before .number .ensures)
-
-most : (c : tie.After-known-told) → c .before .x .given .0 .0 ≤ start c .args .hi
-most c = let s = start c .args in number-most octet (s .lo) (s .hi) (s .word .now) (s .out .now) _ (read c)
-
 returns : tie.Need-returns
-returns c = let s = c .before .before .before .before .before .args in
-    unnumbered octet (s .lo) (s .hi) (s .word .now) (s .out .now) (number-bad (c .enum-told .given .1) (c .before .before .number .ensures))
-
-cast-out : tie.Need-cast-out
-cast-out c = omega (arith, most c)
+returns c = unsaid _ _ _ _ (numbered-none octet (number-bad (c .enum-told .given .1) (c .before .before .decimal .ensures)))
 
 returns-2 : tie.Need-returns-2
-returns-2 c = let s = start c .args in
-    let x = c .before .x .given .0 .0 in
-    numbered octet (s .lo) (s .hi) (s .word .now) _ _ (read c) (omega (arith, most c)) 1 (omega (arith, length-set (s .out .now) 0 x))
-    (put-one (s .out .now) x (omega arith))
+returns-2 c = let k = c .before in
+    unsaid _ _ _ _
+    (numbered-over octet (number-is (k .before .x .given .0 .0) (k .before .x .given .1) (k .before .before .before .decimal .ensures))
+    (omega (arith, c .if1 .taken)))
+
+returns-3 : tie.Need-returns-3
+returns-3 c = let k = c .before in
+    let s = k .before .before .before .before .before .before in
+    let x = k .before .x .given .0 .0 in
+    let d = number-is x (k .before .x .given .1) (k .before .before .before .decimal .ensures) in
+    let h : s .args .from < length (s .args .out .now) = omega (arith, s .pre) in
+    fills-said _ _ _ _ (s .args .from + 1) (bytes octet x) (numbered-some octet d (omega (arith, c .if1 .left)))
+    (rw (add-one (s .args .from)) (take-suc-set (s .args .out .now) (s .args .from) x h))
+    (omega (arith, length-set (s .args .out .now) (s .args .from) x, s .pre)) (omega arith)
 
 pub small-spec : {M : Type 1} → statement M
 small-spec =
     tie.close
-    (tie.spec (λ c κs. search needs) (λ c. search needs) (λ c. search needs) returns cast-out (λ c. search needs)
-    (λ c. search needs) returns-2)
+    (tie.spec (λ c κs. search needs) (λ c. search needs) (λ c. search needs) returns (λ c. search needs) returns-2
+    (λ c. search needs) (λ c. search needs) (λ c. search needs) (λ c. search needs) returns-3)

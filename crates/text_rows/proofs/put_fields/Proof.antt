@@ -38,16 +38,16 @@ here c =
     let l = c .before .before .loop in
     subst
     (λ fs. Left (fieldsText ks (values ks (s .args .row .now))) (s .args .at) (s .args .out .now) fs (s .args .row .now) (l .k) (l .o) (l .out))
-    (field-here (rowFields (s .args .t)) (s .args .n) (l .i) (c .before .loop-test .taken) (s .pre .0 .0)
+    (field-here (rowFields (s .args .t)) (s .args .n) (l .i) (c .before .loop-test .taken) (s .pre .0 .places)
     ∙ ap {B = List Field} (λ f. f ∷ drop (l .i + 1) ks) (sym (c .form-at .ensures)))
     (l .inv .1)
 
 loop-holds : tie.Need-loop-holds Inv-loop μ-loop
 loop-holds c = let s = c .before .before in
-    (omega arith, left-start (take (s .args .n) (rowFields (s .args .t))) (s .args .row .now) (s .args .at) (s .args .out .now) (s .pre .0 .1) (s .pre .1))
+    (omega arith, left-start (take (s .args .n) (rowFields (s .args .t))) (s .args .row .now) (s .args .at) (s .args .out .now) (s .pre .0 .sound) (s .pre .1))
 
 form-at-requires : tie.Need-form-at-requires Inv-loop μ-loop
-form-at-requires c κs = omega (arith, c .loop-test .taken, start c .pre .0 .0)
+form-at-requires c κs = omega (arith, c .loop-test .taken, start c .pre .0 .places)
 
 field-end-requires : tie.Need-field-end-requires Inv-loop μ-loop
 field-end-requires c κs = field-sound (c .form-at .result) (here c)
@@ -73,7 +73,7 @@ same-length c = c .before .loop .inv .1 .onward .kept
 
 returns : tie.Need-returns Inv-loop μ-loop
 returns c = let s = c .before .before .before .before in
-    left-end (rw (fields-gone (rowFields (s .args .t)) (s .args .n) (c .before .loop .i) (c .loop-test .left) (s .pre .0 .0)) at (c .before .loop .inv .1))
+    left-end (rw (fields-gone (rowFields (s .args .t)) (s .args .n) (c .before .loop .i) (c .loop-test .left) (s .pre .0 .places)) at (c .before .loop .inv .1))
 
 pub put-fields-spec : {M : Type 1} → statement M
 put-fields-spec =

@@ -25,7 +25,7 @@ put-table-requires c κs = let s = c .before .before .before in
 put-fields-requires : tie.Need-put-fields-requires
 put-fields-requires c κs = let p = c .before .before .before .before in
     let s = start p in (
-      (omega (arith, key-within (s .args .t), c .key-len .ensures), rw (these c) (s .pre .0)),
+      record { places = omega (arith, key-within (s .args .t), c .key-len .ensures); sound = rw (these c) (s .pre .0) },
       rw (these c)
           (key-room (s .args .t) (values (keyFields (s .args .t)) (s .args .key .now)) (s .args .at) (s .args .out .now) (s .pre .1) (p .put-table .ensures)),
     )

@@ -3,23 +3,23 @@
 use mathlib.Core.List.{[]}
 use mathlib.Core.Option.{some}
 use mathlib.Core.Path.{_≡_, refl, sym, _∙_}
-use Prim.Native.Nat.{_-_, _*_, _≤_, _<_}
+use Prim.Native.Nat.{_+_, _-_, _*_, _≤_, _<_}
 use native.Mathlib.Omega.{arith}
-use lib.ListN.{length, drop, length-set}
+use lib.ListN.{length, take, drop, length-set}
 use borrow.Author.Needs.{needs}
-use Rattle.text_words.specs.Words.{between, split, decimal, decimals, dotted}
-use Rattle.text_words.proofs.Words.{Reads, reads-start, reads-next, reads-none, reads-end, dotted-dash, dotted-some, dots-last, dots-next, dots-bad}
+use Rattle.text_words.specs.Words.{behind, between, split, decimal, decimals, dotted}
+use Rattle.text_words.proofs.Words.{Reads, reads-start, reads-next, reads-none, reads-end, fills-not, fills-upto, dash-fills, dotted-dash, dotted-some, dots-last, dots-next, dots-bad}
 use Rattle.text_words.proofs.Words.{part-some, number-is, number-bad}
 use Rattle.text_words.proofs.dotted.Statement.{statement}
 use Rattle.text_words.proofs.dotted.Tie as tie
 
 abbrev Inv-loop : tie.InvT-loop
-Inv-loop word out₀ at₀ n₀ out at n =
-    (at ≤ length word) × (2 * n ≤ at) × (length out ≡ length out₀)
-    × Reads (decimals (split 46 word)) out n (decimals (split 46 (drop at word)))
+Inv-loop word out₀ from at₀ n₀ out at n =
+    (at ≤ length word) × (2 * n ≤ at + 2 * from) × (length out ≡ length out₀)
+    × Reads (behind (take from out₀) (decimals (split 46 word))) out n (decimals (split 46 (drop at word)))
 
 abbrev μ-loop : tie.MeasureT-loop
-μ-loop word out₀ at₀ n₀ out at n = length word - at
+μ-loop word out₀ from at₀ n₀ out at n = length word - at
 
 -- it is not `-`
 named : (c : tie.Else1 Inv-loop μ-loop) → let w = c .before .before .before .before .args .word .now in dotted w ≡ decimals (split 46 w)
@@ -38,13 +38,13 @@ room c =
     let f = c .before .before .before .before .before in
     let l = f .before in
     let h = part-some _ (l .loop .at) (f .end-of .result) _ (part c) in
-    omega (arith, l .before .before .before .before .before .pre, f .end-of .ensures .1)
+    omega (arith, l .before .before .before .before .before .pre, f .end-of .ensures .inside)
 
 returns : tie.Need-returns Inv-loop μ-loop
-returns c = dotted-dash _ _ (sym (c .before .is-dash .ensures) ∙ c .if1 .taken)
+returns c = dash-fills _ _ _ (dotted-dash _ (sym (c .before .is-dash .ensures) ∙ c .if1 .taken)) (omega arith)
 
 loop-holds : tie.Need-loop-holds Inv-loop μ-loop
-loop-holds c = (omega arith, omega arith, refl, reads-start _ _)
+loop-holds c = (omega arith, omega arith, refl, reads-start _ _ _ (omega arith))
 
 same-length : tie.Need-same-length Inv-loop μ-loop
 same-length c = c .before .before .before .before .before .loop .inv .2
@@ -52,9 +52,10 @@ same-length c = c .before .before .before .before .before .loop .inv .2
 returns-2 : tie.Need-returns-2 Inv-loop μ-loop
 returns-2 c = let l = c .before .before .before .before .before in
     rw (named (l .before))
+    (fills-not _ _ _ _
     (reads-none (l .loop .inv .3)
-    (dots-bad _ (l .loop .at) _ (c .before .before .before .before .end-of .ensures .0) (c .before .before .before .before .end-of .ensures .1)
-    (number-bad (c .enum-told .given .1) (c .before .before .decimal .ensures))))
+    (dots-bad _ (l .loop .at) _ (c .before .before .before .before .end-of .ensures .ends) (c .before .before .before .before .end-of .ensures .inside)
+    (number-bad (c .enum-told .given .1) (c .before .before .decimal .ensures)))))
 
 mul-out : tie.Need-mul-out Inv-loop μ-loop
 mul-out c = omega (arith, room c, c .before .before .before .before .before .before .before .before .before .before .before .good)
@@ -66,7 +67,7 @@ add-n : tie.Need-add-n Inv-loop μ-loop
 add-n c = omega (arith, room c)
 
 add-at : tie.Need-add-at Inv-loop μ-loop
-add-at c = let f = c .before .before .before .before .before in omega (arith, f .end-of .ensures .1, f .before .before .before .before .before .before .good)
+add-at c = let f = c .before .before .before .before .before in omega (arith, f .end-of .ensures .inside, f .before .before .before .before .before .before .good)
 
 same-length-2 : tie.Need-same-length-2 Inv-loop μ-loop
 same-length-2 c = let l = c .before .before .before .before .before .before .before .loop in length-set (l .out) (l .n) _ ∙ l .inv .2
@@ -74,19 +75,20 @@ same-length-2 c = let l = c .before .before .before .before .before .before .bef
 returns-3 : tie.Need-returns-3 Inv-loop μ-loop
 returns-3 c = let f = c .before .before .before .before .before .before in
     let l = f .before in
-    let e : f .end-of .result ≡ length (l .before .before .before .before .before .args .word .now) = omega (arith, f .end-of .ensures .1, c .if2 .taken) in
-    rw (named (l .before))
-    (reads-end (reads-next (l .loop .inv .3) _ (some []) (dots-last _ (l .loop .at) _ (f .end-of .ensures .0) e) (part (c .before)) (room (c .before))) refl)
+    let e : f .end-of .result ≡ length (l .before .before .before .before .before .args .word .now) = omega (arith, f .end-of .ensures .inside, c .if2 .taken) in
+    let g = part-some _ (l .loop .at) (f .end-of .result) _ (part (c .before)) in
+    let r = reads-next (l .loop .inv .3) _ (some []) (dots-last _ (l .loop .at) _ (f .end-of .ensures .ends) e) (part (c .before)) (room (c .before)) in
+    rw (named (l .before)) (fills-upto _ _ _ _ (l .loop .n + 1) (reads-end r refl) (r .inside) (omega arith))
 
 loop-again : tie.Need-loop-again Inv-loop μ-loop
 loop-again c = let f = c .before .before .before .before .before .before in
     let l = f .before in
-    let h : f .end-of .result < length (l .before .before .before .before .before .args .word .now) = omega (arith, f .end-of .ensures .1, c .if2 .left) in
+    let h : f .end-of .result < length (l .before .before .before .before .before .args .word .now) = omega (arith, f .end-of .ensures .inside, c .if2 .left) in
     let g = part-some _ (l .loop .at) (f .end-of .result) _ (part (c .before)) in (
       omega arith,
       omega arith,
       length-set (l .loop .out) (l .loop .n) _ ∙ l .loop .inv .2,
-      reads-next (l .loop .inv .3) _ _ (dots-next _ (l .loop .at) _ (f .end-of .ensures .0) h) (part (c .before)) (room (c .before)),
+      reads-next (l .loop .inv .3) _ _ (dots-next _ (l .loop .at) _ (f .end-of .ensures .ends) h) (part (c .before)) (room (c .before)),
     )
 
 pub dotted-spec : {M : Type 1} → statement M

@@ -6,7 +6,7 @@ use Rattle.text_words.proofs.end_of.Tie as tie
 
 returns : tie.Need-returns
 returns c = let s = c .before .before .args in
-    (rw (run-found (s .mark) (s .s .now) (s .at)) at (c .find .ensures .0), c .find .ensures .1)
+    record { ends = rw (run-found (s .mark) (s .s .now) (s .at)) at (c .find .ensures .0); inside = c .find .ensures .1 }
 
 pub end-of-spec : {M : Type 1} → statement M
 end-of-spec =

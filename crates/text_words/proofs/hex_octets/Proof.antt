@@ -4,19 +4,21 @@ use mathlib.Core.Option.{some}
 use mathlib.Core.Path.{_≡_, refl, sym, _∙_}
 use Prim.Native.Nat.{_+_, _-_, _*_, _≤_, _<_}
 use native.Mathlib.Omega.{arith}
-use lib.ListN.{length, drop, getD, length-set}
+use lib.ListN.{length, take, drop, getD, length-set}
 use borrow.Author.Needs.{needs}
-use Rattle.text_words.specs.Words.{hexDigit, hexPair, hexPairs, hexOctets}
-use Rattle.text_words.proofs.Words.{Reads, reads-start, reads-next, reads-none, reads-bad, reads-end, number-is, number-bad, hex-empty, hex-dash}
-use Rattle.text_words.proofs.Words.{hex-some, pairs-odd, pairs-next, pairs-end, hexPair-below}
+use Rattle.text_words.specs.Words.{behind, hexDigit, hexPair, hexPairs, hexOctets}
+use Rattle.text_words.proofs.Words.{Reads, reads-start, reads-next, reads-none, reads-bad, reads-end, fills-not, unsaid, fills-upto, dash-fills}
+use Rattle.text_words.proofs.Words.{number-is, number-bad, hex-empty, hex-dash, hex-some, pairs-odd, pairs-next, pairs-end, hexPair-below}
 use Rattle.text_words.proofs.hex_octets.Statement.{statement}
 use Rattle.text_words.proofs.hex_octets.Tie as tie
 
 abbrev Inv-loop : tie.InvT-loop
-Inv-loop word out₀ i₀ n₀ out i n = (i ≡ 2 * n) × (i ≤ length word) × (length out ≡ length out₀) × Reads (hexPairs word) out n (hexPairs (drop i word))
+Inv-loop word out₀ from i₀ n₀ out i n =
+    (i + 2 * from ≡ 2 * n) × (i ≤ length word) × (length out ≡ length out₀)
+    × Reads (behind (take from out₀) (hexPairs word)) out n (hexPairs (drop i word))
 
 abbrev μ-loop : tie.MeasureT-loop
-μ-loop word out₀ i₀ n₀ out i n = length word - i
+μ-loop word out₀ from i₀ n₀ out i n = length word - i
 
 -- it is neither empty nor `-`
 paired : (c : tie.Else2 Inv-loop μ-loop) → let w = c .before .before .before .before .before .args .word .now in hexOctets w ≡ hexPairs w
@@ -30,20 +32,20 @@ octet : (c : tie.After-known-told Inv-loop μ-loop) →
 octet c = number-is _ (c .before .x .given .1) (c .before .before .before .hex-pair .ensures)
 
 returns : tie.Need-returns Inv-loop μ-loop
-returns c = hex-empty _ _ (c .if1 .taken)
+returns c = unsaid _ _ _ _ (hex-empty _ (c .if1 .taken))
 
 returns-2 : tie.Need-returns-2 Inv-loop μ-loop
-returns-2 c = hex-dash _ _ (sym (c .before .is-dash .ensures) ∙ c .if2 .taken)
+returns-2 c = dash-fills _ _ _ (hex-dash _ (sym (c .before .is-dash .ensures) ∙ c .if2 .taken)) (omega arith)
 
 loop-holds : tie.Need-loop-holds Inv-loop μ-loop
-loop-holds c = (omega arith, omega arith, refl, reads-start _ _)
+loop-holds c = (omega arith, omega arith, refl, reads-start _ _ _ (omega arith))
 
 same-length : tie.Need-same-length Inv-loop μ-loop
 same-length c = c .before .before .loop .inv .2
 
 returns-3 : tie.Need-returns-3 Inv-loop μ-loop
 returns-3 c = let l = c .before .before .loop in
-    rw (paired (c .before .before .before)) (reads-none (l .inv .3) (pairs-odd _ (l .i) (c .if3 .taken)))
+    rw (paired (c .before .before .before)) (fills-not _ _ _ _ (reads-none (l .inv .3) (pairs-odd _ (l .i) (c .if3 .taken))))
 
 same-length-2 : tie.Need-same-length-2 Inv-loop μ-loop
 same-length-2 c = c .before .before .before .before .before .before .before .loop .inv .2
@@ -53,7 +55,7 @@ returns-4 c = let a = c .before .before in
     let f = a .before .before .before in
     let l = f .before .before .loop in
     let e = number-bad (c .enum-told .given .1) (a .hex-pair .ensures) in
-    rw (paired (f .before .before .before)) (reads-bad (l .inv .3) _ _ (pairs-next _ (l .i) (omega arith)) e)
+    rw (paired (f .before .before .before)) (fills-not _ _ _ _ (reads-bad (l .inv .3) _ _ (pairs-next _ (l .i) (omega arith)) e))
 
 cast-out : tie.Need-cast-out Inv-loop μ-loop
 cast-out c = omega (arith, hexPair-below _ _ _ (octet c))
@@ -70,7 +72,8 @@ same-length-3 c = c .before .loop .inv .2
 
 returns-5 : tie.Need-returns-5 Inv-loop μ-loop
 returns-5 c = let l = c .before .loop in
-    rw (paired (c .before .before)) (reads-end (l .inv .3) (pairs-end _ (l .i) (c .loop-test .left)))
+    rw (paired (c .before .before))
+    (fills-upto _ _ _ _ (l .n) (reads-end (l .inv .3) (pairs-end _ (l .i) (c .loop-test .left))) (l .inv .3 .inside) (omega arith))
 
 pub hex-octets-spec : {M : Type 1} → statement M
 hex-octets-spec =

@@ -6,7 +6,7 @@ use native.Mathlib.Omega.{arith}
 use lib.ListN.{length-take, length, take}
 use borrow.Author.Needs.{needs}
 use Rattle.text_words.specs.Words.{run}
-use Rattle.request_words.specs.Requests.{longest}
+use Rattle.text_words.specs.Words.{longest}
 use Rattle.request_lines.proofs.Lines.{one-line-nil}
 use Rattle.tryreq.proofs.serve.Statement.{statement}
 use Rattle.tryreq.proofs.serve.Tie as tie

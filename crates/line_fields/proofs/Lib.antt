@@ -1,0 +1,4 @@
+pub mod Fronts
+pub mod FieldSlots
+pub mod LineSlots
+pub mod RequestSlots
