@@ -10,7 +10,7 @@ use lib.Dec.{eqb}
 use Rattle.lists.specs.Order.{begins}
 use Rattle.lists.proofs.Bools.{is-false}
 use Rattle.lists.proofs.Orders.{begins-true}
-use Rattle.instance_fields.proofs.Tests.{drop-next}
+use Rattle.instance_fields.proofs.Fields.{drop-next}
 
 pub begins-next : (p c : List ℕ) (i : ℕ) → i < length p → i < length c
     → begins (drop i p) (drop i c) ≡ eqb (getD p i 0) (getD c i 0) && begins (drop (i + 1) p) (drop (i + 1) c)

@@ -2,6 +2,7 @@
 // the other.
 use answers::Fault;
 use instance_fields::Read;
+use reader::Part;
 use rows::KEY_MAX;
 use rows::Table;
 ghost use mathlib.Core.Path.{_≡_};
@@ -33,17 +34,17 @@ pub fn decoded_number(d: Decoded) -> u32
 
 // The key that an index spells, at the front of `key`. It is made apart from it, so that a refusal leaves `key` as it was.
 fn decode_index(t: Table, column: u32, index: &[u32], made: &mut [u8], key: &mut [u8]) -> Decoded
-    requires { ⌜ (keyMax ≤ length (now made)) × (length (now made) ≤ length (now key)) ⌝ }
+    requires room { ⌜ keyMax ≤ length (now made) ⌝ }
+    requires fits { ⌜ length (now made) ≤ length (now key) ⌝ }
     ensures { λ r. ⌜ Delivers (readIndex t column (now (index .entry))) (now (key .entry)) (now (key .exit)) r ⌝ }
 {
     let read = instance_fields::read_fields(t, index, made);
-    let Read::Next(end) = read else {
+    let Read::Next(at, n) = read else {
         return Decoded::Faulty(Fault::NotAnInstance);
     };
-    if end.part < index.len() {
+    if 0 < reader::left_at(index, at) {
         return Decoded::Faulty(Fault::NotAnInstance);
     }
-    let n = end.byte;
     splice::copy_in(key, 0, &made[0..n]);
     Decoded::Instance(t, column, n)
 }
@@ -110,14 +111,15 @@ pub fn decode(oid: &[u32], key: &mut [u8; KEY_MAX]) -> Decoded
         return Decoded::Faulty(Fault::NotAnInstance);
     };
     let n = instance_encode::base_len(t);
-    if oid.len() <= n {
+    let read = reader::read_from(oid, n);
+    let part = read.part;
+    let Part::Of(column) = part else {
         return Decoded::Faulty(Fault::NotAnInstance);
-    }
-    let column = oid[n];
+    };
     if !instance_encode::is_listed(t, column) {
         return Decoded::Faulty(Fault::NotAnInstance);
     }
-    let k = n + 1;
+    let k = read.at;
     let mut made = [0u8; KEY_MAX];
     decode_index(t, column, &oid[k..], &mut made, key)
 }

@@ -1,5 +1,3 @@
-pub mod Tests
-pub mod Parts
 pub mod Fields
 pub mod Indices
 pub mod Takes

@@ -20,7 +20,6 @@ use Rattle.rows.specs.Fields.{Field, integer, fieldBytes, rowBytes}
 use Rattle.rows.specs.Forms.{fieldOf, roomOf, fieldIn}
 use Rattle.rows.specs.Rows.{keyFields, rowFields, keyMax}
 use Rattle.rows.proofs.Bounds.{longestField, longest}
-use Rattle.instance_fields.specs.declared.Cursor.{Cursor}
 use Rattle.instance_fields.specs.declared.Read.{Read}
 use Rattle.instance_fields.specs.declared.Read.the-variants.{Next, Bad}
 use Rattle.lists.specs.Laid.{laid}
@@ -30,109 +29,114 @@ use Rattle.instance_fields.proofs.Indices.{parsed}
 use Rattle.instance_fields.proofs.Takes.{bytes-most}
 use Rattle.lists.proofs.Laid.{laid-nil, length-laid, laid-laid}
 
--- ---- what was taken, once the next place is known
+-- ---- what was taken, once the next places are known
 
-pub record Took {A : Type 0} (bytes : A → List ℕ) (o : Option (Parsed A)) (index found after : List ℕ) (at next : Cursor) : Type 0 where
+pub record Took {A : Type 0} (bytes : A → List ℕ) (o : Option (Parsed A)) (index found after : List ℕ) (byte next end : ℕ) : Type 0 where
   pub it : Parsed A
   pub is : o ≡ some it
-  pub rest-is : it .rest ≡ drop (next .part) index
-  pub byte-is : next .byte ≡ at .byte + length (bytes (it .holds))
-  pub buffer-is : after ≡ laid (at .byte) (bytes (it .holds)) found
+  pub rest-is : it .rest ≡ drop next index
+  pub byte-is : end ≡ byte + length (bytes (it .holds))
+  pub buffer-is : after ≡ laid byte (bytes (it .holds)) found
 
-module _ {A : Type 0} (bytes : A → List ℕ) (index found after : List ℕ) (at : Cursor) where
-  pub took : (o : Option (Parsed A)) {r : Read} {a : Cursor} → Reads bytes o index found after at r → r ≡ Next a →
-      Took bytes o index found after at a
+module _ {A : Type 0} (bytes : A → List ℕ) (index found after : List ℕ) (byte : ℕ) where
+  pub took : (o : Option (Parsed A)) {r : Read} {next end : ℕ} → Reads bytes o index found after byte r → r ≡ Next next end →
+      Took bytes o index found after byte next end
   took none e n = let z : _≡_ {A = ℕ} 0 1 = cc in absurd (omega arith)
-  took (some p) {r} {a} t n =
-      let e : t .next ≡ a = cc in
-      record { it = p; is = refl; rest-is = rw (← e) (t .rest-is); byte-is = rw (← e) (t .byte-is); buffer-is = t .buffer-is }
+  took (some p) {r} {next} {end} t n =
+      let q = t .answer-is in
+      let e : t .next ≡ next = cc in
+      let f : t .end ≡ end = cc in
+      record { it = p; is = refl; rest-is = rw (← e) (t .rest-is); byte-is = rw (← f) (t .byte-is); buffer-is = t .buffer-is }
 
-  pub untaken : (o : Option (Parsed A)) {r : Read} → Reads bytes o index found after at r → r ≡ Bad → o ≡ none
+  pub untaken : (o : Option (Parsed A)) {r : Read} → Reads bytes o index found after byte r → r ≡ Bad → o ≡ none
   untaken none e b = refl
   untaken (some p) t b = let f = t .answer-is in cc
 
 -- ---- a field, and fields behind it
 
 -- the first is not taken
-unread : (k : Field) (ks : List Field) (index found mid after : List ℕ) (at : Cursor) {r : Read} → ReadsField k index found mid at r → r ≡ Bad
-    → ReadsFields (k ∷ ks) index found after at Bad
+unread : (k : Field) (ks : List Field) (index found mid after : List ℕ) (at byte : ℕ) {r : Read} → ReadsField k index found mid at byte r → r ≡ Bad
+    → ReadsFields (k ∷ ks) index found after at byte Bad
 unfolding parseFields bind
-unread k ks index found mid after at e b = rw (untaken (fieldBytes k) index found mid at (parseField k (drop (at .part) index)) e b) refl
+unread k ks index found mid after at byte e b = rw (untaken (fieldBytes k) index found mid byte (parseField k (drop at index)) e b) refl
 
 -- none is left
-nothing-left : (index found : List ℕ) (at : Cursor) → ReadsFields [] index found found at (Next at)
+nothing-left : (index found : List ℕ) (at byte : ℕ) → ReadsFields [] index found found at byte (Next at byte)
 unfolding parseFields bind
-nothing-left index found at = record {
+nothing-left index found at byte = record {
   next = at;
+  end = byte;
   answer-is = refl;
   rest-is = refl;
-  byte-is = sym (add-zero (at .byte));
-  buffer-is = sym (laid-nil (at .byte) found);
+  byte-is = sym (add-zero byte);
+  buffer-is = sym (laid-nil byte found);
 }
 
 -- the first is taken
-module _ (k : Field) (index found mid : List ℕ) (at a : Cursor)
-    (t : Took (fieldBytes k) (parseField k (drop (at .part) index)) index found mid at a) (room : at .byte + longestField k ≤ length found) where
+module _ (k : Field) (index found mid : List ℕ) (at byte next end : ℕ)
+    (t : Took (fieldBytes k) (parseField k (drop at index)) index found mid byte next end) (room : byte + longestField k ≤ length found) where
   field-most : length (fieldBytes k (t .it .holds)) ≤ longestField k
-  field-most = bytes-most k (t .it .holds) (parsed k (drop (at .part) index) (t .it) (t .is) .lawful)
+  field-most = bytes-most k (t .it .holds) (parsed k (drop at index) (t .it) (t .is) .lawful)
 
-  inside : at .byte + length (fieldBytes k (t .it .holds)) ≤ length found
+  inside : byte + length (fieldBytes k (t .it .holds)) ≤ length found
   inside = omega (arith, field-most)
 
-  advanced : a .byte ≤ at .byte + longestField k
+  advanced : end ≤ byte + longestField k
   advanced = omega (arith, field-most, t .byte-is)
 
   same-length : length mid ≡ length found
-  same-length = ap length (t .buffer-is) ∙ length-laid (at .byte) (fieldBytes k (t .it .holds)) found inside
+  same-length = ap length (t .buffer-is) ∙ length-laid byte (fieldBytes k (t .it .holds)) found inside
 
-  join : (ks : List Field) (after : List ℕ) (r : Read) (o : Option (Parsed (List (List ℕ)))) → Reads (rowBytes ks) o index mid after a r
-      → Reads (rowBytes (k ∷ ks)) (Option·map (led (t .it .holds)) o) index found after at r
+  join : (ks : List Field) (after : List ℕ) (r : Read) (o : Option (Parsed (List (List ℕ)))) → Reads (rowBytes ks) o index mid after end r
+      → Reads (rowBytes (k ∷ ks)) (Option·map (led (t .it .holds)) o) index found after byte r
   join ks after r none e = e
   join ks after r (some q) e =
       let x = fieldBytes k (t .it .holds) in
       let y = rowBytes ks (q .holds) in
       record {
         next = e .next;
+        end = e .end;
         answer-is = e .answer-is;
         rest-is = e .rest-is;
         byte-is = omega (arith, e .byte-is, t .byte-is, length-append x y);
         buffer-is =
-            e .buffer-is ∙ ap (λ n. laid n y mid) (t .byte-is) ∙ ap (laid (at .byte + length x) y) (t .buffer-is)
-            ∙ laid-laid (at .byte) x y found inside;
+            e .buffer-is ∙ ap (λ n. laid n y mid) (t .byte-is) ∙ ap (laid (byte + length x) y) (t .buffer-is)
+            ∙ laid-laid byte x y found inside;
       }
 
-  joined : (ks : List Field) (after : List ℕ) (r : Read) → ReadsFields ks index mid after a r → ReadsFields (k ∷ ks) index found after at r
+  joined : (ks : List Field) (after : List ℕ) (r : Read) → ReadsFields ks index mid after next end r → ReadsFields (k ∷ ks) index found after at byte r
   unfolding parseFields bind
-  joined ks after r e = rw (t .is, t .rest-is) (join ks after r (parseFields ks (drop (a .part) index)) e)
+  joined ks after r e = rw (t .is, t .rest-is) (join ks after r (parseFields ks (drop next index)) e)
 
--- ---- on the way through the fields of a key
+-- ---- on the way through fields
 
--- from `at` on the fields ks are left; where they are read from there, all are read from the start
-pub record OnWay (all : List Field) (index found : List ℕ) (start : Cursor) (ks : List Field) (mid : List ℕ) (at : Cursor) : Type 0 where
-  pub room : at .byte + longest ks ≤ length mid
-  pub onward : (after : List ℕ) (r : Read) → ReadsFields ks index mid after at r → ReadsFields all index found after start r
+-- from the place `at` on the fields ks are left; where they are read from there, all are read from the first place
+pub record OnWay (all : List Field) (index found : List ℕ) (at₀ byte₀ : ℕ) (ks : List Field) (mid : List ℕ) (at byte : ℕ) : Type 0 where
+  pub room : byte + longest ks ≤ length mid
+  pub onward : (after : List ℕ) (r : Read) → ReadsFields ks index mid after at byte r → ReadsFields all index found after at₀ byte₀ r
 
-pub way-start : (all : List Field) (index found : List ℕ) (start : Cursor) → start .byte + longest all ≤ length found
-    → OnWay all index found start all found start
-way-start all index found start h = record { room = h; onward = λ after r e. e }
+pub way-start : (all : List Field) (index found : List ℕ) (at byte : ℕ) → byte + longest all ≤ length found
+    → OnWay all index found at byte all found at byte
+way-start all index found at byte h = record { room = h; onward = λ after r e. e }
 
-module _ {all : List Field} {index found : List ℕ} {start : Cursor} {k : Field} {ks : List Field} {mid : List ℕ} {at : Cursor}
-    (w : OnWay all index found start (k ∷ ks) mid at) where
-  pub way-next : (after : List ℕ) {r : Read} {a : Cursor} → ReadsField k index mid after at r → r ≡ Next a → OnWay all index found start ks after a
-  way-next after {r} {a} e n =
-      let t = took (fieldBytes k) index mid after at (parseField k (drop (at .part) index)) e n in
-      let h : at .byte + longestField k ≤ length mid = omega (arith, w .room) in
+module _ {all : List Field} {index found : List ℕ} {at₀ byte₀ : ℕ} {k : Field} {ks : List Field} {mid : List ℕ} {at byte : ℕ}
+    (w : OnWay all index found at₀ byte₀ (k ∷ ks) mid at byte) where
+  pub way-next : (after : List ℕ) {r : Read} {next end : ℕ} → ReadsField k index mid after at byte r → r ≡ Next next end
+      → OnWay all index found at₀ byte₀ ks after next end
+  way-next after {r} {next} {end} e n =
+      let t = took (fieldBytes k) index mid after byte (parseField k (drop at index)) e n in
+      let h : byte + longestField k ≤ length mid = omega (arith, w .room) in
       record {
-        room = omega (arith, w .room, advanced k index mid after at a t h, same-length k index mid after at a t h);
-        onward = λ end r' e'. w .onward end r' (joined k index mid after at a t h ks end r' e');
+        room = omega (arith, w .room, advanced k index mid after at byte next end t h, same-length k index mid after at byte next end t h);
+        onward = λ last r' e'. w .onward last r' (joined k index mid after at byte next end t h ks last r' e');
       }
 
-  pub way-stop : (mid' after : List ℕ) {r : Read} → ReadsField k index mid mid' at r → r ≡ Bad → ReadsFields all index found after start Bad
-  way-stop mid' after e b = w .onward after Bad (unread k ks index mid mid' after at e b)
+  pub way-stop : (mid' after : List ℕ) {r : Read} → ReadsField k index mid mid' at byte r → r ≡ Bad → ReadsFields all index found after at₀ byte₀ Bad
+  way-stop mid' after e b = w .onward after Bad (unread k ks index mid mid' after at byte e b)
 
-pub way-end : {all : List Field} {index found : List ℕ} {start : Cursor} {mid : List ℕ} {at : Cursor} → OnWay all index found start [] mid at
-    → ReadsFields all index found mid start (Next at)
-way-end {all} {index} {found} {start} {mid} {at} w = w .onward mid (Next at) (nothing-left index mid at)
+pub way-end : {all : List Field} {index found : List ℕ} {at₀ byte₀ : ℕ} {mid : List ℕ} {at byte : ℕ} → OnWay all index found at₀ byte₀ [] mid at byte
+    → ReadsFields all index found mid at₀ byte₀ (Next at byte)
+way-end {all} {index} {found} {at₀} {byte₀} {mid} {at} {byte} w = w .onward mid (Next at byte) (nothing-left index mid at byte)
 
 -- ---- the fields of a key by their places: they are the first of its row
 

@@ -1,26 +1,21 @@
-// The fields of a key read from an index, part by part, and written as the key's bytes in the form of the image.
+// The fields of a key read from an index by the reader, part by part, and written as the key's bytes in the form of the image.
 use rows::Form;
 use rows::Table;
 ghost use mathlib.Core.Path.{_≡_};
-ghost use mathlib.Core.Bool.{true};
-ghost use Prim.Native.Nat.{_+_, _*_, _≤_};
-ghost use lib.ListN.{length, take, drop};
-ghost use lib.Dec.{ltb};
+ghost use Prim.Native.Nat.{_+_, _*_, _≤_, _<_};
+ghost use lib.ListN.{length, replicate};
 ghost use Rattle.lists.specs.Laid.{laid};
 ghost use Rattle.big_endian.specs.BigEndian.{size, bound, bytes};
 ghost use Rattle.rows.specs.Fields.{sequence, integer};
 ghost use Rattle.rows.specs.Forms.{fieldOf, roomOf};
 ghost use Rattle.rows.specs.Rows.{keyFields, keyMax};
-ghost use Rattle.instance_fields.specs.Reading.{widthOf, WritesParts, partAt, countAt, start, ReadsField, ReadsFields};
-
-// The largest octet.
-const OCTET_MOST: u32 = 255;
+ghost use Rattle.instance_fields.specs.Reading.{widthOf, largest, anyPart, partAt, countAt, ReadsField, ReadsFields};
 
 // ---- the parts of an index
 
-// The part that was looked for, if it is there and in range.
+// The part that was looked for, if it is there and in range: with the reader's place behind it, and how many parts are left there.
 pub enum Part {
-    Of(u32),
+    Of(u32, usize, usize),
     Amiss,
 }
 
@@ -28,8 +23,9 @@ pub enum Part {
 fn number(index: &[u32], at: usize, lo: u32, hi: u32) -> Part
     ensures { λ r. ⌜ r ≡ partAt lo hi (now (index .entry)) at ⌝ }
 {
-    let read = reader::part_at(index, at);
-    let reader::Part::Of(x) = read else {
+    let read = reader::read_from(index, at);
+    let part = read.part;
+    let reader::Part::Of(x) = part else {
         return Part::Amiss;
     };
     if x < lo {
@@ -38,22 +34,24 @@ fn number(index: &[u32], at: usize, lo: u32, hi: u32) -> Part
     if hi < x {
         return Part::Amiss;
     }
-    Part::Of(x)
+    Part::Of(x, read.at, read.left)
 }
 
-// The same, if as many parts follow it.
+// The same, if as many parts are left behind it.
 fn count(index: &[u32], at: usize, lo: u32, hi: u32) -> Part
     ensures { λ r. ⌜ r ≡ countAt lo hi (now (index .entry)) at ⌝ }
 {
     let n = number(index, at, lo, hi);
-    let Part::Of(x) = n else {
+    let Part::Of(x, _, left) = n else {
         return n;
     };
-    if index.len() - (at + 1) < x as usize {
+    if left < x as usize {
         return Part::Amiss;
     }
     n
 }
+
+// ---- a part as bytes
 
 // How many bytes a part takes in the key.
 pub enum Size {
@@ -61,139 +59,138 @@ pub enum Size {
     Four,
 }
 
-// That many.
-fn bytes_in(w: Size) -> usize
-    ensures { λ r. ⌜ (r ≡ size (widthOf w)) × (r ≤ 4) ⌝ }
+// The largest number of that many bytes.
+fn largest_in(w: Size) -> u32
+    ensures { λ r. ⌜ r ≡ largest (widthOf w) ⌝ }
 {
     match w {
-        Size::One => 1,
-        Size::Four => 4,
+        Size::One => 255,
+        Size::Four => 4294967295,
     }
 }
 
-// A number's bytes at `at`, if it fits.
-fn write_number(w: Size, key: &mut [u8], at: usize, x: u32) -> bool
-    requires { ⌜ at + size (widthOf w) ≤ length (now key) ⌝ }
-    ensures { λ r. ⌜ (r ≡ ltb x (bound (widthOf w))) × (r ≡ true → now (key .exit) ≡ laid at (bytes (widthOf w) x) (now (key .entry))) ⌝ }
+// A number's bytes at `at`; the place behind them.
+fn write_number(w: Size, key: &mut [u8], at: usize, x: u32) -> usize
+    requires room { ⌜ at + size (widthOf w) ≤ length (now key) ⌝ }
+    requires fits { ⌜ x < bound (widthOf w) ⌝ }
+    ensures behind { λ r. ⌜ r ≡ at + size (widthOf w) ⌝ }
+    ensures written { λ _. ⌜ now (key .exit) ≡ laid at (bytes (widthOf w) x) (now (key .entry)) ⌝ }
 {
     match w {
         Size::One => {
-            if OCTET_MOST < x {
-                return false;
-            }
             key[at] = x as u8;
-            true
+            at + 1
         }
         Size::Four => {
             big_endian::put_quad(key, at, x);
-            true
+            at + 4
         }
     }
-}
-
-// The bytes of `n` parts from `from` on, one behind the other from `at` on, if each fits.
-fn write_parts(w: Size, key: &mut [u8], at: usize, index: &[u32], from: usize, n: usize) -> bool
-    requires { ⌜ (from + n ≤ length (now index)) × (at + n * size (widthOf w) ≤ length (now key)) ⌝ }
-    ensures { λ r. ⌜ WritesParts (widthOf w) at (take n (drop from (now (index .entry)))) (now (key .entry)) (now (key .exit)) r ⌝ }
-{
-    let s = bytes_in(w);
-    let mut i = 0;
-    let mut o = at;
-    while i < n {
-        if !write_number(w, key, o, index[from + i]) {
-            return false;
-        }
-        o += s;
-        i += 1;
-    }
-    true
 }
 
 // ---- the fields of an index
 
-// A reader's place: in the index, and in the key that it makes of it.
-pub struct Cursor {
-    pub part: usize,
-    pub byte: usize,
-}
-
-// The place behind what was read, if it could be read.
+// The place behind what was read, in the index and in the key, if it could be read.
 pub enum Read {
-    Next(Cursor),
+    Next(usize, usize),
     Bad,
 }
 
-// A count from `lo` to `hi`, and as many parts.
-fn sequence_at(w: Size, index: &[u32], at: Cursor, lo: u8, hi: u8, key: &mut [u8]) -> Read
-    requires { ⌜ at .byte + 1 + hi * size (widthOf w) ≤ length (now key) ⌝ }
-    ensures { λ r. ⌜ ReadsField (sequence (widthOf w) lo hi) (now (index .entry)) (now (key .entry)) (now (key .exit)) at r ⌝ }
+// A number from `lo` to `hi`.
+fn integer_at(
+    w: Size,
+    index: &[u32],
+    at: usize,
+    lo: u32,
+    hi: u32,
+    key: &mut [u8],
+    byte: usize,
+) -> Read
+    requires room { ⌜ byte + size (widthOf w) ≤ length (now key) ⌝ }
+    requires fits { ⌜ hi < bound (widthOf w) ⌝ }
+    ensures { λ r. ⌜ ReadsField (integer (widthOf w) lo hi) (now (index .entry)) (now (key .entry)) (now (key .exit)) at byte r ⌝ }
 {
-    let p = at.part;
-    let k = at.byte;
-    let counted = count(index, p, lo as u32, hi as u32);
-    let Part::Of(x) = counted else {
+    let part = number(index, at, lo, hi);
+    let Part::Of(x, next, _) = part else {
         return Read::Bad;
     };
-    let n = x as usize;
-    key[k] = x as u8;
-    if !write_parts(w, key, k + 1, index, p + 1, n) {
-        return Read::Bad;
-    }
-    Read::Next(Cursor {
-        part: p + 1 + n,
-        byte: k + 1 + n * bytes_in(w),
-    })
+    let end = write_number(w, key, byte, x);
+    Read::Next(next, end)
 }
 
-// A number from `lo` to `hi`.
-fn integer_at(w: Size, index: &[u32], at: Cursor, lo: u32, hi: u32, key: &mut [u8]) -> Read
-    requires { ⌜ at .byte + size (widthOf w) ≤ length (now key) ⌝ }
-    ensures { λ r. ⌜ ReadsField (integer (widthOf w) lo hi) (now (index .entry)) (now (key .entry)) (now (key .exit)) at r ⌝ }
+// `n` numbers of any size that fits.
+fn numbers_at(w: Size, index: &[u32], at: usize, n: usize, key: &mut [u8], byte: usize) -> Read
+    requires { ⌜ byte + n * size (widthOf w) ≤ length (now key) ⌝ }
+    ensures { λ r. ⌜ ReadsFields (replicate n (anyPart (widthOf w))) (now (index .entry)) (now (key .entry)) (now (key .exit)) at byte r ⌝ }
 {
-    let p = at.part;
-    let k = at.byte;
-    let part = number(index, p, lo, hi);
-    let Part::Of(x) = part else {
+    let hi = largest_in(w);
+    let mut p = at;
+    let mut k = byte;
+    let mut i = 0;
+    while i < n {
+        let read = integer_at(w, index, p, 0, hi, key, k);
+        let Read::Next(next, end) = read else {
+            return Read::Bad;
+        };
+        p = next;
+        k = end;
+        i += 1;
+    }
+    Read::Next(p, k)
+}
+
+// A count from `lo` to `hi`, and as many parts.
+fn sequence_at(
+    w: Size,
+    index: &[u32],
+    at: usize,
+    lo: u8,
+    hi: u8,
+    key: &mut [u8],
+    byte: usize,
+) -> Read
+    requires { ⌜ byte + 1 + hi * size (widthOf w) ≤ length (now key) ⌝ }
+    ensures { λ r. ⌜ ReadsField (sequence (widthOf w) lo hi) (now (index .entry)) (now (key .entry)) (now (key .exit)) at byte r ⌝ }
+{
+    let counted = count(index, at, lo as u32, hi as u32);
+    let Part::Of(n, next, _) = counted else {
         return Read::Bad;
     };
-    if !write_number(w, key, k, x) {
-        return Read::Bad;
-    }
-    Read::Next(Cursor {
-        part: p + 1,
-        byte: k + bytes_in(w),
-    })
+    key[byte] = n as u8;
+    numbers_at(w, index, next, n as usize, key, byte + 1)
 }
 
 // A field by its form.
-fn field(f: Form, index: &[u32], at: Cursor, key: &mut [u8]) -> Read
-    requires { ⌜ at .byte + roomOf f ≤ length (now key) ⌝ }
-    ensures { λ r. ⌜ ReadsField (fieldOf f) (now (index .entry)) (now (key .entry)) (now (key .exit)) at r ⌝ }
+fn field(f: Form, index: &[u32], at: usize, key: &mut [u8], byte: usize) -> Read
+    requires { ⌜ byte + roomOf f ≤ length (now key) ⌝ }
+    ensures { λ r. ⌜ ReadsField (fieldOf f) (now (index .entry)) (now (key .entry)) (now (key .exit)) at byte r ⌝ }
 {
     match f {
-        Form::Name(lo, hi) => sequence_at(Size::One, index, at, lo, hi, key),
-        Form::Subtree(lo, hi) => sequence_at(Size::Four, index, at, lo, hi, key),
-        Form::Large(lo, hi) => integer_at(Size::Four, index, at, lo, hi, key),
-        Form::Small(lo, hi) => integer_at(Size::One, index, at, lo as u32, hi as u32, key),
+        Form::Name(lo, hi) => sequence_at(Size::One, index, at, lo, hi, key, byte),
+        Form::Subtree(lo, hi) => sequence_at(Size::Four, index, at, lo, hi, key, byte),
+        Form::Large(lo, hi) => integer_at(Size::Four, index, at, lo, hi, key, byte),
+        Form::Small(lo, hi) => integer_at(Size::One, index, at, lo as u32, hi as u32, key, byte),
     }
 }
 
 // The fields of a table's key, one behind the other.
 pub fn read_fields(t: Table, index: &[u32], key: &mut [u8]) -> Read
     requires { ⌜ keyMax ≤ length (now key) ⌝ }
-    ensures { λ r. ⌜ ReadsFields (keyFields t) (now (index .entry)) (now (key .entry)) (now (key .exit)) start r ⌝ }
+    ensures { λ r. ⌜ ReadsFields (keyFields t) (now (index .entry)) (now (key .entry)) (now (key .exit)) 0 0 r ⌝ }
 {
     let n = rows::key_len(t);
-    let mut at = Cursor { part: 0, byte: 0 };
+    let mut at = 0;
+    let mut byte = 0;
     let mut i = 0;
     while i < n {
         let f = rows::form_at(t, i);
-        let read = field(f, index, at, key);
-        let Read::Next(next) = read else {
+        let read = field(f, index, at, key, byte);
+        let Read::Next(next, end) = read else {
             return Read::Bad;
         };
         at = next;
+        byte = end;
         i += 1;
     }
-    Read::Next(at)
+    Read::Next(at, byte)
 }

@@ -1,5 +1,5 @@
 // A reader over lent sub-identifiers that knows its place. Its steps are thin: each takes the reader apart and leaves the work to a function
-// on the slice and the place. `read_from` and `part_at` stand above it, for callers that hold no reader.
+// on the slice and the place. `read_from` stands above it, for callers that hold no reader.
 ghost use mathlib.Core.Path.{_≡_};
 ghost use Prim.Native.Nat.{_-_};
 ghost use lib.ListN.{length};
@@ -41,7 +41,7 @@ fn step_at(parts: &[u32], at: usize) -> Step
 }
 
 // How many parts there are from a place on.
-fn left_at(parts: &[u32], at: usize) -> usize
+pub fn left_at(parts: &[u32], at: usize) -> usize
     ensures { λ r. ⌜ r ≡ length (now (parts .entry)) - at ⌝ }
 {
     if parts.len() <= at {
@@ -95,12 +95,4 @@ pub fn read_from(parts: &[u32], at: usize) -> Read
         at: reader.at,
         left: left(reader),
     }
-}
-
-// The part at a place.
-pub fn part_at(parts: &[u32], at: usize) -> Part
-    ensures { λ r. ⌜ r ≡ partAt (now (parts .entry)) at ⌝ }
-{
-    let read = read_from(parts, at);
-    read.part
 }

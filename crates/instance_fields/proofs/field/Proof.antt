@@ -11,10 +11,14 @@ sequence-at-requires-2 : tie.Need-sequence-at-requires-2
 sequence-at-requires-2 c κs = let h = rw (c .before .before .f2 .given .1) at (c .before .before .before .before .before .before .pre) in omega (arith, h)
 
 integer-at-requires : tie.Need-integer-at-requires
-integer-at-requires c κs = rw (c .before .before .f3 .given .1) at (c .before .before .before .before .before .before .pre)
+integer-at-requires c κs =
+    let h = rw (c .before .before .f3 .given .1) at (c .before .before .before .before .before .before .pre) in
+    (omega (arith, h), omega (arith, c .before .known-told3 .given))
 
 integer-at-requires-2 : tie.Need-integer-at-requires-2
-integer-at-requires-2 c κs = rw (c .before .before .f4 .given .1) at (c .before .before .before .before .before .before .pre)
+integer-at-requires-2 c κs =
+    let h = rw (c .before .before .f4 .given .1) at (c .before .before .before .before .before .before .pre) in
+    (omega (arith, h), omega (arith, c .before .known-told4 .given))
 
 returns : tie.Need-returns
 returns c = rw (c .before .before .before .before .before .f .given .1) (c .before .before .sequence-at .ensures)

@@ -8,7 +8,7 @@ use lib.ListN.{length, drop, drop-of-length-le}
 use Rattle.rows.specs.Rows.{keyFields, rowFields}
 use Rattle.rows.specs.Forms.{fieldIn}
 use Rattle.rows.proofs.Bounds.{longestField, key-longest}
-use Rattle.instance_fields.specs.Reading.{start, ReadsField}
+use Rattle.instance_fields.specs.Reading.{ReadsField}
 use Rattle.instance_fields.proofs.Way.{OnWay, way-start, way-next, way-stop, way-end, field-here}
 use Rattle.rows.proofs.Forms.{key-within, room-longest}
 use borrow.Author.Needs.{needs}
@@ -16,29 +16,30 @@ use Rattle.instance_fields.proofs.read_fields.Statement.{statement}
 use Rattle.instance_fields.proofs.read_fields.Tie as tie
 
 abbrev Inv-loop : tie.InvT-loop
-Inv-loop t index key₀ n at₀ i₀ key at i =
-    (i ≤ n) × (length key ≡ length key₀) × OnWay (keyFields t) index key₀ start (drop i (keyFields t)) key at
+Inv-loop t index key₀ n at₀ byte₀ i₀ key at byte i =
+    (i ≤ n) × (length key ≡ length key₀) × OnWay (keyFields t) index key₀ 0 0 (drop i (keyFields t)) key at byte
 
 abbrev μ-loop : tie.MeasureT-loop
-μ-loop t index key₀ n at₀ i₀ key at i = n - i
+μ-loop t index key₀ n at₀ byte₀ i₀ key at byte i = n - i
 
 inside : (c : tie.In-loop Inv-loop μ-loop) → c .before .loop .i < length (keyFields (c .before .before .before .before .before .args .t))
 inside c = omega (arith, c .loop-test .taken, c .before .before .key-len .ensures)
 
 -- in a turn the field at i is the next one
 way : (c : tie.In-loop Inv-loop μ-loop) → let l = c .before .loop in let s = c .before .before .before .before .before .args in
-    OnWay (keyFields (s .t)) (s .index .now) (s .key .now) start (fieldIn (rowFields (s .t)) (l .i) ∷ drop (l .i + 1) (keyFields (s .t))) (l .key) (l .at)
+    OnWay (keyFields (s .t)) (s .index .now) (s .key .now) 0 0
+    (fieldIn (rowFields (s .t)) (l .i) ∷ drop (l .i + 1) (keyFields (s .t))) (l .key) (l .at) (l .byte)
 way c = rw (field-here (c .before .before .before .before .before .args .t) (c .before .loop .i) (inside c)) at (c .before .loop .inv .2)
 
 -- what is read of it
 said : (c : tie.After-field Inv-loop μ-loop) → let l = c .before .before .before .before .loop in
     let s = c .before .before .before .before .before .before .before .before .args in
-    ReadsField (fieldIn (rowFields (s .t)) (l .i)) (s .index .now) (l .key) (c .field .last .1 .1 .1 .0) (l .at) (c .field .result)
+    ReadsField (fieldIn (rowFields (s .t)) (l .i)) (s .index .now) (l .key) (c .field .last .1 .1 .1 .0) (l .at) (l .byte) (c .field .result)
 said c = rw (c .before .before .form-at .ensures) at (c .field .ensures)
 
 loop-holds : tie.Need-loop-holds Inv-loop μ-loop
 loop-holds c = let s = c .before .before .before in
-    (omega arith, refl, way-start (keyFields (s .args .t)) (s .args .index .now) (s .args .key .now) start (omega (arith, s .pre, key-longest (s .args .t))))
+    (omega arith, refl, way-start (keyFields (s .args .t)) (s .args .index .now) (s .args .key .now) 0 0 (omega (arith, s .pre, key-longest (s .args .t))))
 
 form-at-requires : tie.Need-form-at-requires Inv-loop μ-loop
 form-at-requires c κs = omega (arith, inside c, key-within (c .before .before .before .before .before .args .t))
