@@ -14,9 +14,9 @@ use Rattle.answers.specs.declared.Fault.{Fault}
 use Rattle.answers.specs.declared.Fault.the-variants.{NotSound}
 use Rattle.answers.specs.declared.Written.{Written}
 use Rattle.answers.specs.declared.Written.the-variants.{Length, Unwritten}
-use Rattle.lists.proofs.Bools.{split as by, cond-true, cond-false}
+use Rattle.numbers.proofs.Bools.{split as by, cond-true, cond-false}
 use Rattle.rows.specs.Tables.{Tables}
-use Rattle.big_endian.specs.BigEndian.{Octets}
+use Rattle.numbers.specs.BigEndian.{Octets}
 use Rattle.image_judge.specs.Faults.{tablesIn}
 use Rattle.image.specs.Store.{room, isSound, held}
 use Rattle.table_update.proofs.Stores.{store-sound}

@@ -14,12 +14,12 @@ use Rattle.answers.specs.declared.Fault.{Fault}
 use Rattle.answers.specs.declared.Fault.the-variants.{TooShort, NotAnInstance}
 use Rattle.answers.specs.declared.Written.{Written}
 use Rattle.answers.specs.declared.Written.the-variants.{Length, Unwritten}
-use Rattle.lists.specs.Lists.{isNone}
+use Rattle.numbers.specs.Lists.{isNone}
 use Rattle.rows.specs.declared.Table.{Table}
 use Rattle.rows.specs.Fields.{faults, values}
 use Rattle.rows.specs.Rows.{keyFields, indexOf}
 use Rattle.rows.proofs.Sound.{cond-none}
-use Rattle.big_endian.specs.BigEndian.{Octets}
+use Rattle.numbers.specs.BigEndian.{Octets}
 use Rattle.rows.proofs.Inverse.{values-made}
 use Rattle.instance_decode.specs.declared.Decoded.{Decoded}
 use Rattle.instance_decode.specs.declared.Decoded.the-variants.{Instance, Faulty}

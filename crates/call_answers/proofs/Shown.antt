@@ -7,7 +7,7 @@ use native.Mathlib.Omega.{arith}
 use lib.ListN.{length, drop, length-append}
 use lib.Seq.{take-append-seam}
 use Rattle.text_values.specs.Texts.{decimalText, Puts}
-use Rattle.lists.specs.Laid.{laid}
+use Rattle.numbers.specs.Laid.{laid}
 use Rattle.text_values.proofs.Puts.{both, behind, kept}
 use Rattle.text_values.proofs.Digits.{length-decimal}
 use Rattle.call_answers.specs.Answers.{Shows}

@@ -11,7 +11,7 @@ use Rattle.answers.specs.declared.Fault.{Fault}
 use Rattle.answers.specs.Numbers.{faultNumber}
 use Rattle.text_fields.proofs.Buffers.{back, back-front}
 use Rattle.text_values.specs.Texts.{decimalText, Puts}
-use Rattle.lists.specs.Laid.{laid}
+use Rattle.numbers.specs.Laid.{laid}
 use Rattle.text_values.proofs.Digits.{length-decimal}
 use Rattle.text_values.proofs.Puts.{both, kept}
 use Rattle.call_words.specs.Calls.{Asked}

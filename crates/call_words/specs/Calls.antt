@@ -11,8 +11,8 @@ use mathlib.Core.Option.{Option, none, some, bind}
 use Prim.Native.Nat.{ℕ}
 use lib.Dec.{leb}
 use lib.ListN.{length}
-use Rattle.lists.specs.Lists.{find}
-use Rattle.lists.specs.Order.{same}
+use Rattle.numbers.specs.Lists.{find}
+use Rattle.numbers.specs.Order.{same}
 use Rattle.rows.specs.declared.Table.{Table}
 use Rattle.edit_rules.specs.Edits.{callerOf}
 use Rattle.edits.specs.Does.{Call, ask, owner, by}

@@ -11,9 +11,9 @@ use lib.Seq.{take-at}
 use Rattle.answers.specs.declared.Answer.the-variants.{Faulty}
 use Rattle.answers.specs.declared.Fault.{Fault}
 use Rattle.answers.specs.declared.Fault.the-variants.{NotSound}
-use Rattle.lists.proofs.Bools.{and-right}
-use Rattle.big_endian.specs.BigEndian.{quad, bytesOf}
-use Rattle.big_endian.proofs.BigEndian.{length-bytesOf}
+use Rattle.numbers.proofs.Bools.{and-right}
+use Rattle.numbers.specs.BigEndian.{quad, bytesOf}
+use Rattle.numbers.proofs.BigEndian.{length-bytesOf}
 use Rattle.rows.specs.Rows.{modelMax}
 use Rattle.rows.specs.Fields.{within}
 use Rattle.rows.proofs.Sound.{within-most}

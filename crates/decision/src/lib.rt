@@ -75,7 +75,7 @@ pub fn decide_variable_in(w: &[u8], v: NamedView, variable_name: &[u32]) -> Deci
 {
     let mut bytes = [0u8; MOST_BYTES];
     let n = 4 * variable_name.len();
-    big_endian::put_quads(&mut bytes[0..n], variable_name);
+    numbers::put_quads(&mut bytes[0..n], variable_name);
     decision_parts::decide_in(w, v, &bytes[0..n])
 }
 

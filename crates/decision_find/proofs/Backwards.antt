@@ -11,9 +11,9 @@ use native.Mathlib.Omega.{arith}
 use lib.ListN.{length, take, drop, take-append-drop}
 use lib.Seq.{drop-drop}
 use Rattle.answers.specs.declared.Fault.{Fault}
-use Rattle.lists.specs.Lists.{every, isNone}
-use Rattle.lists.proofs.Bools.{and-left, and-right}
-use Rattle.lists.proofs.Keeps.{every-append}
+use Rattle.numbers.specs.Lists.{every, isNone}
+use Rattle.numbers.proofs.Bools.{and-left, and-right}
+use Rattle.numbers.proofs.Keeps.{every-append}
 use Rattle.rows.specs.declared.Table.{Table}
 use Rattle.rows.specs.Fields.{faults}
 use Rattle.rows.specs.Rows.{rowFields}

@@ -8,7 +8,7 @@ use native.Mathlib.Omega.{arith}
 use lib.ListN.{length, drop}
 use lib.Dec.{ltb}
 use borrow.Author.Tests.{lt-ltb, le-ltb}
-use Rattle.lists.specs.Scans.{better, best}
+use Rattle.numbers.specs.Scans.{better, best}
 use Rattle.rows.specs.declared.Table.the-variants.{Access}
 use Rattle.rows.specs.Rows.{AccessRow, accessOf}
 use Rattle.image_layout.specs.declared.Extent.{Extent}

@@ -8,8 +8,8 @@ use mathlib.Core.Option.{Option, none, some, Option·map}
 use Prim.Native.Nat.{ℕ, _+_, _≤_}
 use native.Mathlib.Omega.{arith}
 use lib.ListN.{length}
-use Rattle.lists.specs.Lists.{every, OnSome, isNone}
-use Rattle.lists.proofs.Keeps.{every-imp, every-map}
+use Rattle.numbers.specs.Lists.{every, OnSome, isNone}
+use Rattle.numbers.proofs.Keeps.{every-imp, every-map}
 use Rattle.rows.specs.declared.Table.{Table}
 use Rattle.rows.specs.Fields.{faults}
 use Rattle.rows.specs.Rows.{rowFields}

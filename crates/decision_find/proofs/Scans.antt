@@ -9,7 +9,7 @@ use mathlib.Core.Option.{Option}
 use Prim.Native.Nat.{ℕ, _+_, _≤_, _<_}
 use native.Mathlib.Omega.{arith}
 use lib.ListN.{length, drop}
-use Rattle.lists.proofs.Bools.{cond-true}
+use Rattle.numbers.proofs.Bools.{cond-true}
 use Rattle.rows.specs.declared.Table.{Table}
 use Rattle.image_layout.specs.declared.Extent.{Extent}
 use Rattle.image_layout.specs.Layout.{pair, rowsIn}

@@ -10,11 +10,11 @@ use native.Mathlib.Omega.{arith}
 use lib.Dec.{ltb}
 use lib.ListN.{take, drop}
 use borrow.Author.Tests.{lt-ltb, le-ltb}
-use Rattle.lists.specs.Lists.{keep, any}
-use Rattle.lists.specs.Scans.{latest}
-use Rattle.lists.proofs.Bools.{or-left, or-right, or-false-left, or-false-right, or-neither}
-use Rattle.lists.proofs.Keeps.{keep-append, any-keep}
-use Rattle.lists.proofs.Scans.{latest-append}
+use Rattle.numbers.specs.Lists.{keep, any}
+use Rattle.numbers.specs.Scans.{latest}
+use Rattle.numbers.proofs.Bools.{or-left, or-right, or-false-left, or-false-right, or-neither}
+use Rattle.numbers.proofs.Keeps.{keep-append, any-keep}
+use Rattle.numbers.proofs.Scans.{latest-append}
 use Rattle.rows.specs.declared.Table.the-variants.{View}
 use Rattle.rows.specs.Rows.{ViewRow, viewOf}
 use Rattle.image_layout.specs.declared.Extent.{Extent}

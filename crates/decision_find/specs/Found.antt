@@ -6,7 +6,7 @@ use mathlib.Core.Option.{Option, none, some, Option·map}
 use Prim.Native.Nat.{ℕ, _-_, _≤_}
 use lib.Dec.{ltb}
 use lib.ListN.{length, take, drop}
-use Rattle.lists.specs.Lists.{any, find, keep, OnSome}
+use Rattle.numbers.specs.Lists.{any, find, keep, OnSome}
 use Rattle.rows.specs.declared.Table.{Table}
 use Rattle.rows.specs.declared.Table.the-variants.{View}
 use Rattle.rows.specs.Rows.{ViewRow, viewOf}

@@ -10,9 +10,9 @@ use lib.ListN.{length, take, drop, length-drop}
 use lib.Seq.{length-take-le, take-take, drop-drop}
 use borrow.Author.Tests.{lt-ltb, le-ltb}
 use Rattle.answers.specs.declared.Cause.the-variants.{NoSuchContext, NoGroupName, NoAccessEntry, NoSuchView}
-use Rattle.lists.specs.Lists.{keep, find}
-use Rattle.lists.proofs.Bools.{clash}
-use Rattle.lists.proofs.Keeps.{any-keep, keep-any}
+use Rattle.numbers.specs.Lists.{keep, find}
+use Rattle.numbers.proofs.Bools.{clash}
+use Rattle.numbers.proofs.Keeps.{any-keep, keep-any}
 use Rattle.rows.specs.declared.Table.the-variants.{Mapping, Access}
 use Rattle.rows.specs.Rows.{ContextRow, MappingRow, AccessRow, ViewRow, contextOf, mappingOf, accessOf, viewOf}
 use Rattle.image_layout.specs.declared.Extent.{Extent}

@@ -11,15 +11,15 @@ use native.Mathlib.Omega.{arith}
 use lib.Dec.{eqb, leb, ltb}
 use lib.ListN.{length}
 use borrow.Author.Tests.{ltb-true, lt-ltb, eqb-true, eqb-false, eq-eqb, ne-eqb, not-true}
-use Rattle.lists.specs.Order.{same, before}
-use Rattle.lists.specs.Lists.{keep, every, any, first, top}
-use Rattle.lists.specs.Scans.{last, latest, best}
-use Rattle.lists.proofs.Bools.{split, and-left, and-right, or-true, or-neither, not-is-true, not-is-false, not-not, cond-same, cond-false}
-use Rattle.lists.proofs.Orders.{same-true, before-append}
-use Rattle.lists.proofs.Keeps.{every-imp, every-keep, every-kept, keep-ext-on, keep-all, keep-and, any-ext-on, top-ext-on}
-use Rattle.lists.proofs.Tops.{top-top, top-split}
-use Rattle.lists.proofs.Scans.{best-is, latest-is}
-use Rattle.lists.proofs.Greatest.{Ascends, ascends-keep, ascends-imp, ascends-map, greatest-is-last}
+use Rattle.numbers.specs.Order.{same, before}
+use Rattle.numbers.specs.Lists.{keep, every, any, first, top}
+use Rattle.numbers.specs.Scans.{last, latest, best}
+use Rattle.numbers.proofs.Bools.{split, and-left, and-right, or-true, or-neither, not-is-true, not-is-false, not-not, cond-same, cond-false}
+use Rattle.numbers.proofs.Orders.{same-true, before-append}
+use Rattle.numbers.proofs.Keeps.{every-imp, every-keep, every-kept, keep-ext-on, keep-all, keep-and, any-ext-on, top-ext-on}
+use Rattle.numbers.proofs.Tops.{top-top, top-split}
+use Rattle.numbers.proofs.Scans.{best-is, latest-is}
+use Rattle.numbers.proofs.Greatest.{Ascends, ascends-keep, ascends-imp, ascends-map, greatest-is-last}
 use Rattle.rows.specs.declared.Table.the-variants.{View}
 use Rattle.rows.specs.Fields.{values, index}
 use Rattle.rows.specs.Rows.{AccessRow, ViewRow, keyFields, rowFields, viewOf}

@@ -9,9 +9,9 @@ use native.Mathlib.Omega.{arith}
 use lib.ListN.{length, take, drop, getD, length-drop, take-append-drop}
 use lib.Seq.{length-take-le, drop-drop}
 use borrow.Author.Tests.{lt-ltb}
-use Rattle.lists.proofs.Bools.{and-both}
-use Rattle.big_endian.specs.BigEndian.{quad, number, numbers, bytesOf, fit}
-use Rattle.big_endian.proofs.BigEndian.{length-numbers, length-bytesOf, numbers-bytesOf}
+use Rattle.numbers.proofs.Bools.{and-both}
+use Rattle.numbers.specs.BigEndian.{quad, number, numbers, bytesOf, fit}
+use Rattle.numbers.proofs.BigEndian.{length-numbers, length-bytesOf, numbers-bytesOf}
 use Rattle.decision_steps.specs.Bytes.{identifier}
 
 numbers-front : (n : ℕ) (a b : List ℕ) → n * 4 ≤ length a → numbers quad n (a ++ b) ≡ numbers quad n a

@@ -12,7 +12,7 @@ use lib.ListN.{length, take, drop, getD, length-drop}
 use lib.Seq.{length-take-le}
 use borrow.Author.Tests.{lt-ltb}
 use Rattle.rows.specs.declared.Table.the-variants.{Context, Mapping, Access, View}
-use Rattle.big_endian.specs.BigEndian.{octet, quad, number}
+use Rattle.numbers.specs.BigEndian.{octet, quad, number}
 use Rattle.rows.specs.Fields.{Field, sequence, integer, fault, taken, value, faults, values}
 use Rattle.rows.specs.Rows.{AccessRow, rowFields, contextFrom, mappingFrom, accessFrom, viewFrom, contextOf, mappingOf, accessOf, viewOf}
 use Rattle.rows.proofs.Sound.{faults-end}

@@ -5,7 +5,7 @@ use mathlib.Core.Option.{Option, none, some}
 use Prim.Native.Nat.{ℕ}
 use Rattle.answers.specs.declared.Cause.{Cause}
 use Rattle.answers.specs.declared.Decision.{Decision}
-use Rattle.lists.specs.Lists.{find}
+use Rattle.numbers.specs.Lists.{find}
 use Rattle.rows.specs.Tables.{Tables}
 use Rattle.decision_steps.specs.Request.{Request}
 use Rattle.decision_steps.specs.Decision.{bearsContext, mapsPrincipal, chosenAccess, viewFor, viewRows, orRefused, ifAny}

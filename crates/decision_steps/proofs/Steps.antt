@@ -8,9 +8,9 @@ use native.Mathlib.Omega.{arith}
 use lib.Dec.{eqb, leb}
 use lib.ListN.{length, take}
 use borrow.Author.Tests.{eq-eqb, ne-eqb, le-leb, lt-leb}
-use Rattle.lists.specs.Order.{same, begins}
-use Rattle.lists.proofs.Bools.{is-false, or-neither, and-false-left, and-false-right}
-use Rattle.lists.proofs.Orders.{same-sym, begins-take, begins-length}
+use Rattle.numbers.specs.Order.{same, begins}
+use Rattle.numbers.proofs.Bools.{is-false, or-neither, and-false-left, and-false-right}
+use Rattle.numbers.proofs.Orders.{same-sym, begins-take, begins-length}
 use Rattle.rows.specs.Rows.{ContextRow, MappingRow, AccessRow}
 use Rattle.decision_steps.specs.Decision.{isActive, bearsContext, mapsPrincipal, contextFits, candidate, viewFor}
 use Rattle.decision_steps.specs.Bytes.{rankOf}

@@ -7,7 +7,7 @@ use Prim.Native.Nat.{ℕ, _+_, _*_, _/_, _≤_}
 use lib.Dec.{eqb}
 use lib.ListN.{length, take, drop, getD}
 use Rattle.rows.specs.declared.Table.{Table}
-use Rattle.big_endian.specs.BigEndian.{quad, numbers}
+use Rattle.numbers.specs.BigEndian.{quad, numbers}
 use Rattle.rows.specs.Fields.{faults}
 use Rattle.rows.specs.Rows.{rowFields, AccessRow}
 use Rattle.decision_steps.specs.Decision.{anyModel, candidate}

@@ -12,8 +12,8 @@ use Rattle.answers.specs.declared.Cause.the-variants.{NoSuchContext, NoGroupNam
 use Rattle.answers.specs.declared.Decision.{Decision}
 use Rattle.answers.specs.declared.Decision.the-variants.{Allowed, Refused}
 use Rattle.answers.specs.declared.Fault.the-variants.{NotSound, OutOfRange}
-use Rattle.lists.specs.Lists.{keep, every, any, first, find, top}
-use Rattle.lists.specs.Order.{same, before, begins}
+use Rattle.numbers.specs.Lists.{keep, every, any, first, find, top}
+use Rattle.numbers.specs.Order.{same, before, begins}
 use Rattle.rows.specs.Rows.{ContextRow, MappingRow, AccessRow, ViewRow}
 use Rattle.rows.specs.Tables.{Tables}
 use Rattle.decision_steps.specs.Request.{Request, legalRequest, read, write}

@@ -2,7 +2,7 @@
 ghost use mathlib.Core.Path.{_≡_};
 ghost use Prim.Native.Nat.{_+_, _-_, _≤_, _<_};
 ghost use lib.ListN.{length, getD};
-ghost use Rattle.lists.specs.Order.{same};
+ghost use Rattle.numbers.specs.Order.{same};
 ghost use Rattle.rows.specs.declared.Table.the-variants.{Context, Mapping, Access};
 ghost use Rattle.rows.specs.Rows.{contextOf, mappingOf, accessOf};
 ghost use Rattle.decision_steps.specs.Decision.{isActive, bearsContext, mapsPrincipal, contextFits, viewFor};
@@ -29,7 +29,7 @@ pub fn after(row: &[u8], at: usize) -> usize
     requires { ⌜ NameIn (now row) at ⌝ }
     ensures { λ r. ⌜ After (now (row .entry)) at r ⌝ }
 {
-    at + 1 + big_endian::wide(row[at])
+    at + 1 + numbers::wide(row[at])
 }
 
 // Whether the name at `at` of the row is `name`.
@@ -38,7 +38,7 @@ pub fn is_name(row: &[u8], at: usize, name: &[u8]) -> bool
     ensures { λ r. ⌜ r ≡ same (nameAt (now (row .entry)) at) (now (name .entry)) ⌝ }
 {
     let from = at + 1;
-    let end = from + big_endian::wide(row[at]);
+    let end = from + numbers::wide(row[at]);
     octets::are_same(&row[from..end], name)
 }
 
@@ -68,7 +68,7 @@ pub fn maps_principal(row: &[u8], security_model: usize, security_name: &[u8]) -
     requires { ⌜ Whole Mapping (now row) ⌝ }
     ensures { λ r. ⌜ r ≡ mapsPrincipal «security_model» (now («security_name» .entry)) (mappingOf (now (row .entry))) ⌝ }
 {
-    if big_endian::quad_at(row, 0) != security_model {
+    if numbers::quad_at(row, 0) != security_model {
         return false;
     }
     if !is_name(row, 4, security_name) {
@@ -96,7 +96,7 @@ fn fits(row: &[u8], at: usize, matching: usize, context_name: &[u8]) -> bool
     if row[matching] == EXACT {
         return is_name(row, at, context_name);
     }
-    let k = big_endian::wide(row[at]);
+    let k = numbers::wide(row[at]);
     if context_name.len() < k {
         return false;
     }
@@ -125,12 +125,12 @@ pub fn rank(
     if !fits(row, p, m + 5, context_name) {
         return 0;
     }
-    let least = big_endian::wide(row[m + 4]);
+    let least = numbers::wide(row[m + 4]);
     if security_level < least {
         return 0;
     }
-    let own = big_endian::quad_at(row, m);
-    let base = big_endian::wide(row[p]) * 4 + least;
+    let own = numbers::quad_at(row, m);
+    let base = numbers::wide(row[p]) * 4 + least;
     if own == ANY_MODEL {
         return base;
     }

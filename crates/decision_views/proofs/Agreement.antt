@@ -11,9 +11,9 @@ use lib.Dec.{eqb}
 use lib.ListN.{length, take, drop, getD, length-drop}
 use lib.Seq.{getD-take}
 use borrow.Author.Tests.{eqb-true, eq-eqb}
-use Rattle.lists.proofs.Bools.{test-ext, and-left, and-right, and-both, and-false-right, or-right}
-use Rattle.big_endian.specs.BigEndian.{quad, number}
-use Rattle.big_endian.proofs.BigEndian.{quad-front}
+use Rattle.numbers.proofs.Bools.{test-ext, and-left, and-right, and-both, and-false-right, or-right}
+use Rattle.numbers.specs.BigEndian.{quad, number}
+use Rattle.numbers.proofs.BigEndian.{quad-front}
 use Rattle.decision_steps.specs.Decision.{maskBit, agrees}
 use Rattle.decision_steps.specs.Bytes.{identifier}
 use Rattle.decision_steps.proofs.Identifiers.{identifier-none, identifier-next}

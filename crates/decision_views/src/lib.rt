@@ -74,7 +74,7 @@ pub fn is_matching(row: &[u8], view_name: &[u8], variable: &[u8]) -> bool
 {
     let s = decision_steps::after(row, 0);
     let from = s + 1;
-    let mask = from + 4 * big_endian::wide(row[s]);
+    let mask = from + 4 * numbers::wide(row[s]);
     let bits = mask + 1;
     let end = decision_steps::after(row, mask);
     if !is_below(&row[from..mask], &row[bits..end], variable) {

@@ -13,11 +13,11 @@ use Rattle.answers.specs.declared.Decision.the-variants.{Allowed, Refused}
 use Rattle.answers.specs.declared.Fault.{Fault}
 use Rattle.answers.specs.declared.Fault.the-variants.{OutOfRange, TableFull, Torn, NotAscending}
 use Rattle.answers.specs.Numbers.{decisionNumber, faultNumber, answerNumber}
-use Rattle.lists.specs.Lists.{OnSome}
-use Rattle.lists.specs.Order.{before}
+use Rattle.numbers.specs.Lists.{OnSome}
+use Rattle.numbers.specs.Order.{before}
 use Rattle.rows.specs.declared.Table.{Table}
 use Rattle.rows.specs.declared.Table.the-variants.{Context, Mapping, Access}
-use Rattle.big_endian.specs.BigEndian.{size, number}
+use Rattle.numbers.specs.BigEndian.{size, number}
 use Rattle.rows.specs.Fields.{within, Field, sequence, integer, sequenceFault, integerFault, fault, taken, orElse, faults}
 use Rattle.rows.specs.Rows.{rowFields, indexOf}
 use Rattle.rows.specs.Tables.{Tables}

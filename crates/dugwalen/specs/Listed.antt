@@ -5,7 +5,7 @@ use mathlib.Core.Bool.{Bool, true}
 use mathlib.Core.List.{List, [], _∷_}
 use Prim.Native.Nat.{ℕ}
 use lib.Dec.{eqb}
-use Rattle.lists.specs.Lists.{any}
+use Rattle.numbers.specs.Lists.{any}
 use Rattle.dugwalen.specs.CCall.{callNumber}
 
 abbrev pub listed : List ℕ

@@ -12,8 +12,8 @@ use Rattle.rows.specs.declared.Operation.{Operation}
 use Rattle.rows.specs.declared.Table.{Table}
 use Rattle.rows.specs.Fields.{faults}
 use Rattle.rows.specs.Tables.{Tables}
-use Rattle.big_endian.specs.BigEndian.{Octets}
-use Rattle.big_endian.proofs.BigEndian.{octets-take}
+use Rattle.numbers.specs.BigEndian.{Octets}
+use Rattle.numbers.proofs.BigEndian.{octets-take}
 use Rattle.image_layout.specs.Layout.{layoutOf, extentOf, endOf}
 use Rattle.image.specs.Store.{isSound}
 use Rattle.table_update.specs.Exchange.{Sought}

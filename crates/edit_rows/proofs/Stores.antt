@@ -17,9 +17,9 @@ use types.Run.{OneOf}
 use denote.Enum.Declared.{tagOf}
 use Rattle.answers.specs.declared.Fault.{Fault}
 use Rattle.answers.specs.declared.Fault.the-variants.{NotSound, TableFull}
-use Rattle.lists.proofs.Bools.{split, clash, is-true, cond-true, cond-false}
-use Rattle.lists.proofs.Greatest.{Ascends, ascends-map, ascends-imp}
-use Rattle.lists.proofs.Keeps.{every-all}
+use Rattle.numbers.proofs.Bools.{split, clash, is-true, cond-true, cond-false}
+use Rattle.numbers.proofs.Greatest.{Ascends, ascends-map, ascends-imp}
+use Rattle.numbers.proofs.Keeps.{every-all}
 use Rattle.rows.specs.declared.Table.{Table}
 use Rattle.rows.specs.declared.Table.the-variants.{Context, Mapping, Access, View}
 use Rattle.rows.specs.Fields.{faults, span}
@@ -27,7 +27,7 @@ use Rattle.rows.specs.Rows.{keyFields, rowFields, limit}
 use Rattle.rows.specs.Tables.{Tables}
 use Rattle.rows.proofs.Appends.{key-room}
 use Rattle.rows.proofs.Inverse.{span-whole}
-use Rattle.big_endian.specs.BigEndian.{Octets}
+use Rattle.numbers.specs.BigEndian.{Octets}
 use Rattle.image_layout.specs.declared.Layout.{Layout}
 use Rattle.image_layout.specs.declared.Extent.{Extent}
 use Rattle.image_layout.specs.Layout.{Inside, endOf, layoutOf, extentOf}

@@ -16,13 +16,13 @@ use Rattle.answers.specs.declared.Written.{Written}
 use Rattle.answers.specs.declared.Written.the-variants.{Length, Unwritten}
 use Rattle.rows.specs.declared.Table.{Table}
 use Rattle.rows.specs.declared.Table.the-variants.{Context, Mapping, Access, View}
-use Rattle.big_endian.specs.BigEndian.{size, Octets}
+use Rattle.numbers.specs.BigEndian.{size, Octets}
 use Rattle.rows.specs.Fields.{Field, sequence, integer, fault, taken, value, faults, values, span, rowBytes, legals, indexField, index}
 use Rattle.rows.specs.Rows.{keyFields, rowFields, restFields, indexOf}
 use Rattle.rows.specs.Tables.{Tables}
 use Rattle.rows.proofs.Appends.{row-split}
 use Rattle.rows.proofs.Inverse.{bytes-front, legals-front, faults-made, values-made}
-use Rattle.big_endian.proofs.BigEndian.{length-numbers}
+use Rattle.numbers.proofs.BigEndian.{length-numbers}
 use Rattle.rows.proofs.Sound.{within-most, sequence-range, faults-first, faults-rest}
 use Rattle.decision_steps.specs.Request.{asked, write}
 use Rattle.decision_steps.specs.Decision.{decision}

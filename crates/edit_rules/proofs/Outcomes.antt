@@ -14,9 +14,9 @@ use lib.ListN.{length, take, getD, length-map}
 use lib.Seq.{take-all}
 use Rattle.answers.specs.declared.Fault.{Fault}
 use Rattle.answers.specs.declared.Fault.the-variants.{TableFull, RowAbsent}
-use Rattle.lists.specs.Lists.{isNone}
-use Rattle.lists.proofs.Bools.{split, clash}
-use Rattle.lists.proofs.Greatest.{Ascends}
+use Rattle.numbers.specs.Lists.{isNone}
+use Rattle.numbers.proofs.Bools.{split, clash}
+use Rattle.numbers.proofs.Greatest.{Ascends}
 use Rattle.rows.specs.declared.Operation.{Operation}
 use Rattle.rows.specs.declared.Operation.the-variants.{Put, Remove}
 use Rattle.rows.specs.declared.Table.{Table}
@@ -25,7 +25,7 @@ use Rattle.rows.specs.Fields.{faults, span}
 use Rattle.rows.specs.Rows.{keyFields, rowFields, limit, contextOf, mappingOf, accessOf, viewOf, indexOf}
 use Rattle.rows.specs.Tables.{Tables}
 use Rattle.rows.proofs.Inverse.{span-whole}
-use Rattle.big_endian.specs.BigEndian.{Octets}
+use Rattle.numbers.specs.BigEndian.{Octets}
 use Rattle.table_update.specs.Exchange.{oneIf, rowsBefore, isHeld, exchanged, exchangedIn}
 use Rattle.table_update.specs.Tables.{rowAt}
 use Rattle.table_update.proofs.Keys.{KeyOf, Whole, key-of-row, key-of-key}

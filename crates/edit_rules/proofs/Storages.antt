@@ -9,15 +9,15 @@ use Prim.Native.Nat.{ℕ, _+_, _-_, _≤_, _<_}
 use native.Mathlib.Omega.{arith}
 use lib.ListN.{length, take, drop, getD, length-take, length-drop}
 use lib.Seq.{drop-cons}
-use Rattle.lists.specs.Order.{before}
-use Rattle.lists.proofs.Bools.{clash, split}
+use Rattle.numbers.specs.Order.{before}
+use Rattle.numbers.proofs.Bools.{clash, split}
 use Rattle.rows.specs.declared.Table.{Table}
 use Rattle.rows.specs.declared.Table.the-variants.{Context, Mapping, Access, View}
 use Rattle.rows.specs.Fields.{Field, integer, faults, values, span}
-use Rattle.big_endian.specs.BigEndian.{octet}
+use Rattle.numbers.specs.BigEndian.{octet}
 use Rattle.rows.specs.Rows.{rowFields, numberAt}
 use Rattle.rows.proofs.Appends.{values-append, faults-append}
-use Rattle.big_endian.proofs.BigEndian.{getD-front}
+use Rattle.numbers.proofs.BigEndian.{getD-front}
 use Rattle.rows.proofs.Sound.{integer-room, faults-first, faults-rest, faults-end}
 use Rattle.image_layout.specs.declared.Extent.{Extent}
 use Rattle.image_layout.specs.Layout.{Inside, total, lengthsIn, rowsIn}

@@ -15,7 +15,7 @@ use Rattle.rows.specs.declared.Table.the-variants.{Context, Mapping, Access, Vi
 use Rattle.rows.specs.Fields.{Field, faults, orElse, within}
 use Rattle.rows.specs.Rows.{keyFields, rowFields, limit, modelMax, indexOf}
 use Rattle.rows.specs.Tables.{Tables}
-use Rattle.lists.specs.Lists.{isNone}
+use Rattle.numbers.specs.Lists.{isNone}
 use Rattle.decision_steps.specs.Request.{asked, longestName, noAuthNoPriv, authPriv, write}
 use Rattle.decision_steps.specs.Decision.{decision}
 use Rattle.rows.specs.declared.Operation.{Operation}

@@ -8,8 +8,8 @@ use Prim.Native.Nat.{ℕ}
 use Rattle.answers.specs.declared.Decision.{Decision}
 use Rattle.answers.specs.declared.Decision.the-variants.{Allowed, Refused}
 use Rattle.answers.specs.declared.Fault.the-variants.{OutOfRange, ContextTable}
-use Rattle.lists.proofs.Bools.{split, clash}
-use Rattle.big_endian.specs.BigEndian.{Octets}
+use Rattle.numbers.proofs.Bools.{split, clash}
+use Rattle.numbers.specs.BigEndian.{Octets}
 use Rattle.rows.specs.Tables.{Tables}
 use Rattle.image_layout.specs.Layout.{layoutOf}
 use Rattle.image_judge.specs.Faults.{tablesAt}

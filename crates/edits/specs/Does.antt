@@ -3,7 +3,7 @@ use mathlib.Core.List.{List}
 use Prim.Native.Nat.{ℕ}
 use Rattle.answers.specs.declared.Answer.{Answer}
 use Rattle.answers.specs.Numbers.{answerNumber}
-use Rattle.big_endian.specs.BigEndian.{Octets}
+use Rattle.numbers.specs.BigEndian.{Octets}
 use Rattle.decision_steps.specs.Request.{Request}
 use Rattle.decision.specs.Decides.{Decides}
 use Rattle.edit_rules.specs.declared.Edited.{Edited}

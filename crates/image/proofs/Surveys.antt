@@ -12,8 +12,8 @@ use lib.ListN.{length}
 use borrow.Author.Tests.{lt-ltb, le-ltb, lt-leb, leb-true, eq-eqb, ne-eqb, eqb-true}
 use Rattle.answers.specs.declared.Fault.{Fault}
 use Rattle.answers.specs.declared.Fault.the-variants.{NotSound, Torn, TableFull}
-use Rattle.lists.specs.Lists.{isNone}
-use Rattle.lists.proofs.Bools.{and-left, and-right}
+use Rattle.numbers.specs.Lists.{isNone}
+use Rattle.numbers.proofs.Bools.{and-left, and-right}
 use Rattle.rows.proofs.Sound.{cond-none}
 use Rattle.image_layout.specs.declared.Layout.{Layout}
 use Rattle.image_layout.specs.Layout.{count, imageLength, imageEnd, withinLimits, header, laidOut, layoutOf}

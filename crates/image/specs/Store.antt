@@ -8,7 +8,7 @@ use lib.Dec.{eqb, leb}
 use lib.ListN.{length}
 use Rattle.answers.specs.declared.Fault.{Fault}
 use Rattle.answers.specs.declared.Fault.the-variants.{NotSound}
-use Rattle.lists.specs.Lists.{isNone}
+use Rattle.numbers.specs.Lists.{isNone}
 use Rattle.rows.specs.Tables.{Tables}
 use Rattle.image_judge.specs.declared.Surveyed.{Surveyed}
 use Rattle.image_judge.specs.declared.Surveyed.the-variants.{Laid, Bad}

@@ -11,15 +11,15 @@ use lib.ListN.{take, drop, length-take}
 use lib.Seq.{take-take}
 use Rattle.answers.specs.declared.Fault.{Fault}
 use Rattle.answers.specs.declared.Fault.the-variants.{NotAscending}
-use Rattle.lists.specs.Order.{before}
+use Rattle.numbers.specs.Order.{before}
 use Rattle.rows.specs.declared.Table.{Table}
 use Rattle.rows.specs.Fields.{faults, span}
 use Rattle.rows.specs.Rows.{keyFields, rowFields, indexOf}
 use Rattle.rows.specs.Steps.{reached, rowStep}
 use Rattle.rows.specs.declared.Step.{Step}
 use Rattle.rows.specs.declared.Step.the-variants.{At}
-use Rattle.big_endian.specs.BigEndian.{Octets}
-use Rattle.big_endian.proofs.BigEndian.{octets-drop, octets-take}
+use Rattle.numbers.specs.BigEndian.{Octets}
+use Rattle.numbers.proofs.BigEndian.{octets-drop, octets-take}
 use Rattle.image_layout.specs.declared.Extent.{Extent}
 use Rattle.image_layout.specs.Layout.{pair, rowsIn, endOf}
 use Rattle.image_judge.specs.Faults.{tableFault}

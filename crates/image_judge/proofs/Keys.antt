@@ -10,13 +10,13 @@ use Prim.Native.Nat.{ℕ, zero, suc, _≤_}
 use native.Mathlib.Omega.{arith}
 use lib.ListN.{length, take}
 use lib.Seq.{length-take-le}
-use Rattle.lists.specs.Order.{before}
+use Rattle.numbers.specs.Order.{before}
 use Rattle.rows.specs.declared.Table.{Table}
 use Rattle.rows.specs.declared.Table.the-variants.{Context, Mapping, Access, View}
 use Rattle.rows.specs.Fields.{Field, sequence, integer, taken, values, index, faults, span}
 use Rattle.rows.specs.Rows.{contextKey, contextRest, mappingKey, mappingRest, accessKey, accessRest, viewKey, viewRest, keyFields, rowFields, indexOf}
 use Rattle.rows.proofs.Appends.{span-room}
-use Rattle.big_endian.specs.BigEndian.{Octets}
+use Rattle.numbers.specs.BigEndian.{Octets}
 use Rattle.rows.proofs.Order.{compares-keys, compares-before}
 use Rattle.rows.proofs.Places.{size-some}
 

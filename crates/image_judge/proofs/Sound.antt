@@ -8,10 +8,10 @@ use mathlib.Core.Option.{Option, none, some}
 use Prim.Native.Nat.{ℕ}
 use Rattle.answers.specs.declared.Fault.{Fault}
 use Rattle.answers.specs.declared.Fault.the-variants.{NotAscending}
-use Rattle.lists.specs.Lists.{every, isNone}
-use Rattle.lists.specs.Order.{before}
-use Rattle.lists.proofs.Bools.{and-both}
-use Rattle.lists.proofs.Greatest.{Under, Ascends, under-trans}
+use Rattle.numbers.specs.Lists.{every, isNone}
+use Rattle.numbers.specs.Order.{before}
+use Rattle.numbers.proofs.Bools.{and-both}
+use Rattle.numbers.proofs.Greatest.{Under, Ascends, under-trans}
 use Rattle.rows.specs.declared.Step.{Step}
 use Rattle.rows.specs.declared.Step.the-variants.{At}
 use Rattle.rows.specs.declared.Table.{Table}

@@ -7,7 +7,7 @@ use mathlib.Core.Option.{Option, none, some}
 use Prim.Native.Nat.{ℕ}
 use Rattle.answers.specs.declared.Fault.{Fault}
 use Rattle.answers.specs.declared.Fault.the-variants.{Torn, NotAscending}
-use Rattle.lists.specs.Order.{before}
+use Rattle.numbers.specs.Order.{before}
 use Rattle.rows.specs.declared.Step.{Step}
 use Rattle.rows.specs.declared.Step.the-variants.{At}
 use Rattle.rows.specs.declared.Table.{Table}

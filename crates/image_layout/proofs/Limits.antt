@@ -6,7 +6,7 @@ use Prim.Native.Nat.{ℕ, _+_, _≤_}
 use native.Mathlib.Omega.{arith}
 use lib.Dec.{leb}
 use borrow.Author.Tests.{le-leb, leb-true}
-use Rattle.lists.proofs.Bools.{and-left, and-right}
+use Rattle.numbers.proofs.Bools.{and-left, and-right}
 use Rattle.rows.specs.declared.Table.the-variants.{Context, Mapping, Access, View}
 use Rattle.rows.specs.Rows.{limit}
 use Rattle.image_layout.specs.Layout.{withinLimits, mostRows}

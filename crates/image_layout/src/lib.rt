@@ -28,8 +28,8 @@ pub fn pair_at(w: &[u8], at: usize) -> usize
     ensures number { λ r. ⌜ r ≡ pair (drop at (now (w .entry))) ⌝ }
     ensures bounded { λ r. ⌜ r ≤ mostPair ⌝ }
 {
-    let a = big_endian::wide(w[at]);
-    let b = big_endian::wide(w[at + 1]);
+    let a = numbers::wide(w[at]);
+    let b = numbers::wide(w[at + 1]);
     a * 256 + b
 }
 

@@ -13,7 +13,7 @@ use Rattle.rows.specs.declared.Table.{Table}
 use Rattle.rows.specs.declared.Table.the-variants.{Context, Mapping, Access, View}
 use Rattle.rows.specs.Fields.{faults, rowBytes}
 use Rattle.rows.specs.Rows.{rowFields, contextOf, mappingOf, accessOf, viewOf}
-use Rattle.big_endian.specs.BigEndian.{Octets}
+use Rattle.numbers.specs.BigEndian.{Octets}
 use Rattle.rows.proofs.Inverse.{bytes-again}
 use Rattle.rows.proofs.Typed.{context-fields, mapping-fields, access-fields, view-fields}
 use Rattle.image_layout.specs.Layout.{header, middle, layoutOf, extentOf, imageEnd}

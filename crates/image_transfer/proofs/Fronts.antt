@@ -9,11 +9,11 @@ use Prim.Native.Nat.{ℕ, _+_, _*_, _≤_}
 use native.Mathlib.Omega.{arith}
 use lib.ListN.{length, drop, getD, length-append}
 use lib.Seq.{drop-length}
-use Rattle.lists.proofs.Bools.{cond-true}
+use Rattle.numbers.proofs.Bools.{cond-true}
 use Rattle.rows.specs.declared.Table.{Table}
 use Rattle.rows.specs.Rows.{contextOf, mappingOf, accessOf, viewOf}
 use Rattle.rows.specs.Tables.{Tables}
-use Rattle.big_endian.specs.BigEndian.{Octets}
+use Rattle.numbers.specs.BigEndian.{Octets}
 use Rattle.image_layout.specs.Layout.{countsSize, header, middle, rowCount, imageEnd}
 use Rattle.image_judge.specs.Faults.{tablesAt, tablesIn}
 use Rattle.image.specs.Store.{room, isSound, held}

@@ -11,8 +11,8 @@ use borrow.Author.Tests.{le-leb, lt-leb}
 use Rattle.answers.specs.declared.Fault.{Fault}
 use Rattle.answers.specs.declared.Fault.the-variants.{NotSound, TooShort}
 use Rattle.answers.specs.declared.Written.the-variants.{Length, Unwritten}
-use Rattle.lists.proofs.Bools.{cond-true}
-use Rattle.big_endian.specs.BigEndian.{Octets}
+use Rattle.numbers.proofs.Bools.{cond-true}
+use Rattle.numbers.specs.BigEndian.{Octets}
 use Rattle.image_layout.specs.declared.Extent.{Extent}
 use Rattle.image_layout.specs.declared.Layout.{Layout}
 use Rattle.image_layout.specs.Layout.{Inside, endOf, layoutOf, laidOut, imageEnd, mostRows}

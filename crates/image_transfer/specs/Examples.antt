@@ -3,7 +3,7 @@ use mathlib.Core.Path.{_≡_, refl}
 use mathlib.Core.List.{List, [], _∷_, map}
 use mathlib.Core.Option.{none, some}
 use Prim.Native.Nat.{ℕ}
-use Rattle.lists.specs.Order.{before}
+use Rattle.numbers.specs.Order.{before}
 use Rattle.rows.specs.Fields.{sequenceFault, faults}
 use Rattle.rows.specs.Rows.{keyFields, rowFields}
 use Rattle.rows.specs.Tables.{Tables, noRows}

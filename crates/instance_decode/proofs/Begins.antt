@@ -7,9 +7,9 @@ use Prim.Native.Nat.{ℕ, _+_, _≤_, _<_}
 use native.Mathlib.Omega.{arith}
 use lib.ListN.{length, take, drop, getD, length-take, drop-of-length-le}
 use lib.Dec.{eqb}
-use Rattle.lists.specs.Order.{begins}
-use Rattle.lists.proofs.Bools.{is-false}
-use Rattle.lists.proofs.Orders.{begins-true}
+use Rattle.numbers.specs.Order.{begins}
+use Rattle.numbers.proofs.Bools.{is-false}
+use Rattle.numbers.proofs.Orders.{begins-true}
 use Rattle.instance_fields.proofs.Fields.{drop-next}
 
 pub begins-next : (p c : List ℕ) (i : ℕ) → i < length p → i < length c

@@ -13,11 +13,11 @@ use lib.Seq.{take-append-seam, drop-append-seam}
 use Rattle.answers.specs.declared.Fault.{Fault}
 use Rattle.answers.specs.declared.Written.{Written}
 use Rattle.answers.specs.declared.Written.the-variants.{Length}
-use Rattle.lists.specs.Lists.{isNone}
-use Rattle.lists.specs.Order.{begins}
-use Rattle.lists.proofs.Bools.{and-left, and-right}
-use Rattle.lists.proofs.Keeps.{find-is}
-use Rattle.lists.proofs.Orders.{begins-true}
+use Rattle.numbers.specs.Lists.{isNone}
+use Rattle.numbers.specs.Order.{begins}
+use Rattle.numbers.proofs.Bools.{and-left, and-right}
+use Rattle.numbers.proofs.Keeps.{find-is}
+use Rattle.numbers.proofs.Orders.{begins-true}
 use Rattle.rows.specs.declared.Table.{Table}
 use Rattle.rows.specs.declared.Table.the-variants.{Context, Mapping, Access, View}
 use Rattle.rows.specs.Fields.{faults, values, index}
@@ -28,7 +28,7 @@ use Rattle.instance_decode.specs.declared.Decoded.the-variants.{Instance
 use Rattle.instance_encode.specs.Instances.{base, instance, lists, encodeFault, written, Encodes}
 use Rattle.instance_fields.specs.Indices.{parseIndex}
 use Rattle.instance_decode.specs.Decoding.{Reading, readIndex, readColumn, tableOf, readInstance, keyBytes, decoded, buffered}
-use Rattle.big_endian.specs.BigEndian.{Octets}
+use Rattle.numbers.specs.BigEndian.{Octets}
 use Rattle.instance_decode.specs.Inverse.{Encodable, readingOf, ReadsWritten, WritesRead, DecodeAfterEncode, EncodeAfterDecode}
 use Rattle.instance_fields.proofs.Indices.{then-some, map-some, cond-some, index-parsed, index-made}
 use Rattle.instance_encode.proofs.Answers.{encode-accepted}

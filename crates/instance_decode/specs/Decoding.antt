@@ -5,8 +5,8 @@ use mathlib.Core.List.{List, [], _∷_, _++_}
 use mathlib.Core.Option.{Option, none, some, Option·map, bind}
 use Prim.Native.Nat.{ℕ}
 use lib.ListN.{length, drop}
-use Rattle.lists.specs.Lists.{find}
-use Rattle.lists.specs.Order.{begins}
+use Rattle.numbers.specs.Lists.{find}
+use Rattle.numbers.specs.Order.{begins}
 use Rattle.answers.specs.declared.Fault.the-variants.{NotAnInstance}
 use Rattle.rows.specs.declared.Table.{Table}
 use Rattle.rows.specs.declared.Table.the-variants.{Context, Mapping, Access, View}

@@ -3,7 +3,7 @@ use mathlib.Core.Path.{_≡_, refl}
 use mathlib.Core.List.{List, [], _∷_}
 use mathlib.Core.Option.{some, bind}
 use Prim.Native.Nat.{ℕ}
-use Rattle.lists.specs.Order.{begins}
+use Rattle.numbers.specs.Order.{begins}
 use Rattle.rows.specs.declared.Table.the-variants.{Mapping}
 use Rattle.rows.specs.Rows.{keyFields, indexOf}
 use Rattle.instance_encode.specs.Instances.{instance, statusColumn}

@@ -8,7 +8,7 @@ use rows::Table;
 ghost use mathlib.Core.Path.{_≡_};
 ghost use Prim.Native.Nat.{_≤_};
 ghost use lib.ListN.{length, take};
-ghost use Rattle.lists.specs.Order.{begins};
+ghost use Rattle.numbers.specs.Order.{begins};
 ghost use Rattle.instance_encode.specs.Instances.{base};
 ghost use Rattle.rows.specs.Rows.{keyMax};
 ghost use Rattle.instance_decode.specs.Decoding.{tableOf, foundIn, readIndex, Delivers, Decodes};

@@ -12,17 +12,17 @@ use borrow.Author.Tests.{le-leb, lt-leb}
 use Rattle.answers.specs.declared.Fault.{Fault}
 use Rattle.answers.specs.declared.Fault.the-variants.{OutOfRange, TooShort}
 use Rattle.answers.specs.declared.Written.the-variants.{Length, Unwritten}
-use Rattle.lists.proofs.Bools.{and-false-right}
+use Rattle.numbers.proofs.Bools.{and-false-right}
 use Rattle.rows.specs.declared.Table.{Table}
 use Rattle.rows.specs.declared.Table.the-variants.{Context, Mapping, Access, View}
-use Rattle.big_endian.specs.BigEndian.{size}
+use Rattle.numbers.specs.BigEndian.{size}
 use Rattle.rows.specs.Fields.{Field, sequence, integer, fault, taken, value, faults, values, indexField, index}
 use Rattle.rows.specs.Rows.{keyFields, indexOf}
-use Rattle.big_endian.proofs.BigEndian.{length-numbers}
+use Rattle.numbers.proofs.BigEndian.{length-numbers}
 use Rattle.rows.proofs.Sound.{within-most, sequence-range, faults-first, faults-rest}
 use Rattle.instance_encode.specs.Instances.{base, instance, lists, encodeFault, Encodes}
-use Rattle.lists.specs.Laid.{laid}
-use Rattle.lists.proofs.Laid.{laid-set, laid-laid, length-laid}
+use Rattle.numbers.specs.Laid.{laid}
+use Rattle.numbers.proofs.Laid.{laid-set, laid-laid, length-laid}
 
 pub instance-length : (t : Table) (column : ℕ) (v : List ℕ) → length (instance t column v) ≡ length (base t) + 1 + length v
 instance-length t column v = omega (arith, length-append (base t) (column ∷ v))

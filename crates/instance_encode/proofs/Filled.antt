@@ -6,8 +6,8 @@ use Prim.Native.Nat.{ℕ, _+_, _≤_, _<_}
 use native.Mathlib.Omega.{arith}
 use lib.ListN.{length, take, drop, getD, set}
 use lib.Seq.{length-take-le, take-add, take-all, drop-cons}
-use Rattle.lists.specs.Laid.{laid}
-use Rattle.lists.proofs.Laid.{laid-nil, laid-set, laid-laid, length-laid}
+use Rattle.numbers.specs.Laid.{laid}
+use Rattle.numbers.proofs.Laid.{laid-nil, laid-set, laid-laid, length-laid}
 
 -- s in w from `at` on, as far as i
 pub record FilledFrom (at : ℕ) (s w out : List ℕ) (i : ℕ) : Type 0 where

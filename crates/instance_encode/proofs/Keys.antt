@@ -12,11 +12,11 @@ use lib.ListN.{length, take, drop, getD, length-drop, drop-of-length-le}
 use lib.Seq.{take-all, take-add, drop-drop}
 use Rattle.rows.specs.declared.Table.{Table}
 use Rattle.rows.specs.declared.Table.the-variants.{Context, Mapping, Access, View}
-use Rattle.big_endian.specs.BigEndian.{octet, quad, number, numbers}
+use Rattle.numbers.specs.BigEndian.{octet, quad, number, numbers}
 use Rattle.rows.specs.Fields.{Field, sequence, integer, fault, taken, value, faults, values, indexField, index}
 use Rattle.rows.specs.Rows.{keyFields, indexOf}
 use Rattle.rows.proofs.Sound.{sequence-room, integer-room, field-room, faults-first, faults-rest, faults-end}
-use Rattle.big_endian.proofs.BigEndian.{getD-front, length-numbers}
+use Rattle.numbers.proofs.BigEndian.{getD-front, length-numbers}
 use Rattle.rows.proofs.Places.{numbers-octet}
 use Rattle.instance_encode.specs.Runs.{quadsFrom, quadsIn, runs}
 use Rattle.instance_encode.proofs.Runs.{runs-length}

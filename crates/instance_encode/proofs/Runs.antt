@@ -6,10 +6,10 @@ use Prim.Native.Nat.{ℕ, _+_, _-_, _*_, _≤_}
 use native.Mathlib.Omega.{arith}
 use lib.ListN.{length, take, drop, length-append, length-drop}
 use lib.Seq.{length-take-le, take-all}
-use Rattle.big_endian.specs.BigEndian.{quad, numbers}
-use Rattle.big_endian.proofs.BigEndian.{length-numbers}
-use Rattle.lists.specs.Laid.{laid}
-use Rattle.lists.proofs.Laid.{laid-laid}
+use Rattle.numbers.specs.BigEndian.{quad, numbers}
+use Rattle.numbers.proofs.BigEndian.{length-numbers}
+use Rattle.numbers.specs.Laid.{laid}
+use Rattle.numbers.proofs.Laid.{laid-laid}
 use Rattle.instance_encode.specs.Runs.{runs}
 
 module _ (from quads : ℕ) (key : List ℕ) (room : from + 4 * quads ≤ length key) where

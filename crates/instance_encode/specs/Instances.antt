@@ -8,7 +8,7 @@ use lib.Dec.{eqb, leb}
 use lib.ListN.{length, drop}
 use Rattle.answers.specs.declared.Fault.{Fault}
 use Rattle.answers.specs.declared.Fault.the-variants.{OutOfRange, TooShort}
-use Rattle.lists.specs.Lists.{any, isNone}
+use Rattle.numbers.specs.Lists.{any, isNone}
 use Rattle.rows.specs.Fields.{faults}
 use Rattle.rows.specs.Rows.{keyFields, indexOf}
 use Rattle.answers.specs.declared.Written.{Written}

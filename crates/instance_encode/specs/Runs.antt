@@ -4,7 +4,7 @@ use Prim.Native.Nat.{ℕ, _+_, _-_, _*_}
 use lib.ListN.{length, take, drop, getD}
 use Rattle.rows.specs.declared.Table.{Table}
 use Rattle.rows.specs.declared.Table.the-variants.{Context, Mapping, Access, View}
-use Rattle.big_endian.specs.BigEndian.{quad, numbers}
+use Rattle.numbers.specs.BigEndian.{quad, numbers}
 
 -- where these numbers begin, and how many there are
 abbrev pub quadsFrom : Table → List ℕ → ℕ

@@ -8,9 +8,9 @@ ghost use mathlib.Core.List.{[], _∷_, _++_};
 ghost use mathlib.Core.Option.{none};
 ghost use Prim.Native.Nat.{_+_, _*_, _≤_};
 ghost use lib.ListN.{length, take, drop};
-ghost use Rattle.lists.specs.Laid.{laid};
+ghost use Rattle.numbers.specs.Laid.{laid};
 ghost use Rattle.rows.specs.Fields.{faults};
-ghost use Rattle.big_endian.specs.BigEndian.{quad, numbers};
+ghost use Rattle.numbers.specs.BigEndian.{quad, numbers};
 ghost use Rattle.rows.specs.Rows.{keyFields};
 ghost use Rattle.instance_encode.specs.Instances.{base, longestBase, lists, instance, Encodes};
 ghost use Rattle.instance_encode.specs.Runs.{quadsFrom, quadsIn, runs};
@@ -86,7 +86,7 @@ fn put_numbers(out: &mut [u32], at: usize, bytes: &[u8], from: usize, n: usize)
     let mut i = 0;
     let mut o = from;
     while i < n {
-        out[at + i] = big_endian::quad_at(bytes, o) as u32;
+        out[at + i] = numbers::quad_at(bytes, o) as u32;
         o += 4;
         i += 1;
     }

@@ -12,11 +12,11 @@ use lib.ListN.{length, take, drop, getD, replicate, length-drop, drop-of-length-
 use lib.Seq.{drop-cons, drop-drop, length-take-le}
 use lib.Dec.{leb, ltb}
 use borrow.Author.Tests.{ltb-true, ltb-false, leb-true, leb-false, lt-ltb, le-leb, lt-leb}
-use Rattle.lists.proofs.Bools.{split, and-left, and-right, cond-same}
+use Rattle.numbers.proofs.Bools.{split, and-left, and-right, cond-same}
 use Rattle.rows.proofs.Sound.{within-least, within-most}
 use Rattle.rows.proofs.Steps.{within-yes}
 use Rattle.rows.proofs.Bounds.{longest}
-use Rattle.big_endian.specs.BigEndian.{Width, octet, quad, size, bound, bytes, bytesOf, fit}
+use Rattle.numbers.specs.BigEndian.{Width, octet, quad, size, bound, bytes, bytesOf, fit}
 use Rattle.rows.specs.Fields.{sequence, integer, within, rowBytes}
 use Rattle.instance_fields.specs.declared.Part.{Part}
 use Rattle.instance_fields.specs.declared.Part.the-variants.{Of, Amiss}

@@ -11,7 +11,7 @@ use lib.ListN.{length, take, drop, length-append, take-append-drop}
 use lib.Seq.{length-take-le, take-append-seam, drop-append-seam}
 use lib.Dec.{leb, eqb}
 use borrow.Author.Tests.{leb-true, le-leb, eqb-true}
-use Rattle.lists.proofs.Bools.{clash, and-both}
+use Rattle.numbers.proofs.Bools.{clash, and-both}
 use Rattle.rows.specs.Fields.{Field, sequence, integer, legal, legals, indexField, index}
 use Rattle.rows.proofs.Inverse.{legals-first, legals-rest, legals-no-values, legals-no-fields}
 use Rattle.instance_fields.specs.Indices.{Parsed, checked, parseField, led, parseFields, ended, parseIndex}

@@ -10,19 +10,19 @@ use native.Mathlib.Nat.{mul-le-mul-right}
 use native.Mathlib.Omega.{arith}
 use lib.ListN.{length, take, drop, getD, set, replicate, length-drop}
 use lib.Seq.{drop-drop, length-take-le}
-use Rattle.big_endian.specs.BigEndian.{Width, size, bound, bytes, bytesOf, fit}
+use Rattle.numbers.specs.BigEndian.{Width, size, bound, bytes, bytesOf, fit}
 use Rattle.rows.specs.Fields.{Field, sequence, integer, within, fieldBytes, rowBytes, legal}
-use Rattle.big_endian.proofs.BigEndian.{length-bytes, length-bytesOf}
+use Rattle.numbers.proofs.BigEndian.{length-bytes, length-bytesOf}
 use Rattle.rows.proofs.Sound.{within-most}
 use Rattle.rows.proofs.Bounds.{longestField}
-use Rattle.lists.proofs.Bools.{and-left}
+use Rattle.numbers.proofs.Bools.{and-left}
 use Rattle.instance_fields.specs.declared.Read.{Read}
 use Rattle.instance_fields.specs.declared.Read.the-variants.{Next, Bad}
 use Rattle.instance_fields.specs.declared.Part.the-variants.{Of, Amiss}
-use Rattle.lists.specs.Laid.{laid}
+use Rattle.numbers.specs.Laid.{laid}
 use Rattle.instance_fields.specs.Reading.{partAt, countAt, anyPart, Reads, ReadsField, ReadsFields}
 use Rattle.instance_fields.proofs.Fields.{count-of, parse-integer, parse-sequence, singles, parse-parts, bytes-parts}
-use Rattle.lists.proofs.Laid.{laid-set, laid-laid}
+use Rattle.numbers.proofs.Laid.{laid-set, laid-laid}
 
 -- a count laid, and what it counts behind it
 laid-counted : (at n : ℕ) (b w : List ℕ) → at + 1 ≤ length w → laid (at + 1) b (set w at n) ≡ laid at (n ∷ b) w

@@ -10,7 +10,7 @@ use native.Mathlib.Numerals.{add-one}
 use native.Mathlib.Omega.{arith}
 use lib.ListN.{length, take, drop, getD, length-append}
 use lib.Seq.{drop-cons, getD-take}
-use Rattle.big_endian.specs.BigEndian.{octet}
+use Rattle.numbers.specs.BigEndian.{octet}
 use Rattle.rows.proofs.Forms.{key-first}
 use Rattle.rows.specs.declared.Table.{Table}
 use Rattle.rows.specs.declared.Table.the-variants.{Context, Mapping, Access, View}
@@ -22,12 +22,12 @@ use Rattle.rows.specs.Rows.{keyFields, rowFields, keyMax}
 use Rattle.rows.proofs.Bounds.{longestField, longest}
 use Rattle.instance_fields.specs.declared.Read.{Read}
 use Rattle.instance_fields.specs.declared.Read.the-variants.{Next, Bad}
-use Rattle.lists.specs.Laid.{laid}
+use Rattle.numbers.specs.Laid.{laid}
 use Rattle.instance_fields.specs.Indices.{Parsed, parseField, led, parseFields}
 use Rattle.instance_fields.specs.Reading.{Reads, ReadsField, ReadsFields}
 use Rattle.instance_fields.proofs.Indices.{parsed}
 use Rattle.instance_fields.proofs.Takes.{bytes-most}
-use Rattle.lists.proofs.Laid.{laid-nil, length-laid, laid-laid}
+use Rattle.numbers.proofs.Laid.{laid-nil, length-laid, laid-laid}
 
 -- ---- what was taken, once the next places are known
 

@@ -6,7 +6,7 @@ use mathlib.Core.Option.{Option, none, some}
 use Prim.Native.Nat.{ℕ, _+_, _-_}
 use lib.Dec.{ltb, leb}
 use lib.ListN.{length, drop, getD}
-use Rattle.big_endian.specs.BigEndian.{Width, octet, quad}
+use Rattle.numbers.specs.BigEndian.{Width, octet, quad}
 use Rattle.rows.specs.Fields.{Field, integer, within, fieldBytes, rowBytes}
 use Rattle.instance_fields.specs.declared.Read.{Read}
 use Rattle.instance_fields.specs.declared.Read.the-variants.{Next, Bad}
@@ -14,7 +14,7 @@ use Rattle.instance_fields.specs.declared.Size.{Size}
 use Rattle.instance_fields.specs.declared.Size.the-variants.{One, Four}
 use Rattle.instance_fields.specs.declared.Part.{Part}
 use Rattle.instance_fields.specs.declared.Part.the-variants.{Of, Amiss}
-use Rattle.lists.specs.Laid.{laid}
+use Rattle.numbers.specs.Laid.{laid}
 use Rattle.instance_fields.specs.Indices.{Parsed, parseField, parseFields}
 
 -- ---- parts

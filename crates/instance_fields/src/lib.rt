@@ -4,8 +4,8 @@ use rows::Table;
 ghost use mathlib.Core.Path.{_≡_};
 ghost use Prim.Native.Nat.{_+_, _*_, _≤_, _<_};
 ghost use lib.ListN.{length, replicate};
-ghost use Rattle.lists.specs.Laid.{laid};
-ghost use Rattle.big_endian.specs.BigEndian.{size, bound, bytes};
+ghost use Rattle.numbers.specs.Laid.{laid};
+ghost use Rattle.numbers.specs.BigEndian.{size, bound, bytes};
 ghost use Rattle.rows.specs.Fields.{sequence, integer};
 ghost use Rattle.rows.specs.Forms.{fieldOf, roomOf};
 ghost use Rattle.rows.specs.Rows.{keyFields, keyMax};
@@ -82,7 +82,7 @@ fn write_number(w: Size, key: &mut [u8], at: usize, x: u32) -> usize
             at + 1
         }
         Size::Four => {
-            big_endian::put_quad(key, at, x);
+            numbers::put_quad(key, at, x);
             at + 4
         }
     }

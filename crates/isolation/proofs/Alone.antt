@@ -6,7 +6,7 @@ use mathlib.Core.Bool.{Bool, true}
 use mathlib.Core.List.{List, [], _∷_}
 use mathlib.Core.Option.{some}
 use Prim.Native.Nat.{ℕ}
-use Rattle.lists.proofs.Bools.{split}
+use Rattle.numbers.proofs.Bools.{split}
 use Rattle.rows.specs.Tables.{Tables}
 use Rattle.image.specs.Store.{held}
 use Rattle.edits.specs.Does.{Call, Reply}

@@ -4,7 +4,7 @@ use mathlib.Core.Path.{_≡_, refl, ap}
 use mathlib.Core.Bool.{true}
 use Rattle.rows.specs.Tables.{Tables}
 use Rattle.answers.specs.declared.Answer.{Answer}
-use Rattle.lists.proofs.Bools.{split}
+use Rattle.numbers.proofs.Bools.{split}
 use Rattle.decision_steps.specs.Request.{Request, legalRequest}
 use Rattle.decision_steps.specs.Decision.{answerOn}
 use Rattle.isolation.specs.Isolation.{Circle}

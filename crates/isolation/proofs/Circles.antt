@@ -9,10 +9,10 @@ use Prim.Native.Nat.{ℕ}
 use native.Mathlib.Nat.{suc-inj}
 use native.Mathlib.Omega.{arith}
 use lib.ListN.{length}
-use Rattle.lists.specs.Lists.{keep, every}
-use Rattle.lists.specs.Order.{same}
-use Rattle.lists.proofs.Bools.{clash}
-use Rattle.lists.proofs.Greatest.{Ascends}
+use Rattle.numbers.specs.Lists.{keep, every}
+use Rattle.numbers.specs.Order.{same}
+use Rattle.numbers.proofs.Bools.{clash}
+use Rattle.numbers.proofs.Greatest.{Ascends}
 use Rattle.rows.specs.declared.Table.{Table}
 use Rattle.rows.specs.declared.Table.the-variants.{Context, Mapping, Access, View}
 use Rattle.rows.specs.Fields.{values, index}

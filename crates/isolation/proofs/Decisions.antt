@@ -10,10 +10,10 @@ use Prim.Native.Nat.{ℕ}
 use lib.Dec.{eqb}
 use lib.ListN.{length}
 use borrow.Author.Tests.{eqb-true}
-use Rattle.lists.specs.Lists.{keep, every, any, find, OnSome}
-use Rattle.lists.proofs.Bools.{split, and-left, and-right}
-use Rattle.lists.proofs.Orders.{same-true}
-use Rattle.lists.proofs.Keeps.{every-keep, every-kept, every-both, every-top, keep-keep, first-is, find-is}
+use Rattle.numbers.specs.Lists.{keep, every, any, find, OnSome}
+use Rattle.numbers.proofs.Bools.{split, and-left, and-right}
+use Rattle.numbers.proofs.Orders.{same-true}
+use Rattle.numbers.proofs.Keeps.{every-keep, every-kept, every-both, every-top, keep-keep, first-is, find-is}
 use Rattle.rows.specs.declared.Table.the-variants.{Context, Mapping, Access, View}
 use Rattle.rows.specs.Rows.{ContextRow, MappingRow, AccessRow, ViewRow}
 use Rattle.rows.specs.Tables.{Tables}

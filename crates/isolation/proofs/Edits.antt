@@ -11,8 +11,8 @@ use native.Mathlib.Omega.{arith}
 use lib.Dec.{eqb, leb}
 use lib.ListN.{length}
 use borrow.Author.Tests.{leb-false, lt-leb}
-use Rattle.lists.specs.Lists.{keep, isNone}
-use Rattle.lists.proofs.Bools.{split, clash, and-left, and-right, and-both, and-false-or, and-false-left, and-false-right, or-right}
+use Rattle.numbers.specs.Lists.{keep, isNone}
+use Rattle.numbers.proofs.Bools.{split, clash, and-left, and-right, and-both, and-false-or, and-false-left, and-false-right, or-right}
 use Rattle.rows.specs.declared.Operation.{Operation}
 use Rattle.rows.specs.declared.Operation.the-variants.{Put, Remove}
 use Rattle.rows.specs.declared.Table.{Table}

@@ -9,14 +9,14 @@ use lib.Dec.{eqb, ltb}
 use native.Mathlib.Omega.{arith}
 use borrow.Author.Tests.{eq-eqb, le-leb, ltb-true}
 use lib.ListN.{length, replicate}
-use Rattle.lists.specs.Lists.{every}
-use Rattle.lists.proofs.Bools.{and-left, and-right}
-use Rattle.lists.specs.Order.{same, before, begins}
+use Rattle.numbers.specs.Lists.{every}
+use Rattle.numbers.proofs.Bools.{and-left, and-right}
+use Rattle.numbers.specs.Order.{same, before, begins}
 use Rattle.rows.specs.declared.Table.the-variants.{Context, Mapping, Access, View}
 use Rattle.rows.specs.Fields.{sequenceFault, integerFault, faults, rowBytes}
 use Rattle.rows.specs.Rows.{keyFields, rowFields}
 use Rattle.rows.specs.Tables.{noRows}
-use Rattle.big_endian.specs.BigEndian.{Octets}
+use Rattle.numbers.specs.BigEndian.{Octets}
 use Rattle.image_layout.specs.Layout.{header, laidOut, layoutOf}
 use Rattle.image_judge.specs.Faults.{tableFault, rowsFault, tablesAt}
 use Rattle.image.specs.Store.{room, soundRows, isSound, held}

@@ -7,13 +7,13 @@ use mathlib.Core.Bool.{Bool, true, false, and-true}
 use mathlib.Core.List.{List, [], _∷_}
 use mathlib.Core.Option.{none, some}
 use Prim.Native.Nat.{ℕ}
-use Rattle.lists.specs.Lists.{keep, every}
-use Rattle.lists.specs.Order.{same}
-use Rattle.lists.proofs.Bools.{split, clash, and-left, and-both, or-right, not-is-true}
-use Rattle.lists.proofs.Orders.{same-true, same-refl}
-use Rattle.lists.proofs.Keeps.{every-all, every-imp}
-use Rattle.lists.proofs.Greatest.{Ascends, ascends-keep}
-use Rattle.lists.proofs.Ascending.{ascends-same}
+use Rattle.numbers.specs.Lists.{keep, every}
+use Rattle.numbers.specs.Order.{same}
+use Rattle.numbers.proofs.Bools.{split, clash, and-left, and-both, or-right, not-is-true}
+use Rattle.numbers.proofs.Orders.{same-true, same-refl}
+use Rattle.numbers.proofs.Keeps.{every-all, every-imp}
+use Rattle.numbers.proofs.Greatest.{Ascends, ascends-keep}
+use Rattle.numbers.proofs.Ascending.{ascends-same}
 use Rattle.rows.specs.declared.Table.{Table}
 use Rattle.rows.specs.declared.Table.the-variants.{Context, Mapping, Access, View}
 use Rattle.rows.specs.Tables.{Tables, noRows}

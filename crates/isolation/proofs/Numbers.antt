@@ -9,7 +9,7 @@ use Rattle.answers.specs.declared.Fault.{Fault}
 use Rattle.answers.specs.declared.Fault.the-variants.{NotSound, OutOfRange, TableFull, RowAbsent, StorageForbids, ContextTable, NotAnInstance, Torn}
 use Rattle.answers.specs.declared.Fault.the-variants.{NotAscending, TooShort}
 use Rattle.answers.specs.Numbers.{causeNumber, faultNumber}
-use Rattle.lists.proofs.Bools.{clash}
+use Rattle.numbers.proofs.Bools.{clash}
 use Rattle.edit_rules.specs.declared.Edited.{Edited}
 use Rattle.edit_rules.specs.declared.Edited.the-variants.{Done, Barred, Faulty}
 use Rattle.edits.specs.Calls.{editedNumber}

@@ -7,7 +7,7 @@ use mathlib.Core.Bool.{Bool, true, false, cond, not, _&&_}
 use mathlib.Core.List.{[]}
 use lib.Dec.{eqb}
 use Rattle.answers.specs.declared.Fault.the-variants.{OutOfRange, ContextTable}
-use Rattle.lists.proofs.Bools.{split, not-true}
+use Rattle.numbers.proofs.Bools.{split, not-true}
 use Rattle.rows.specs.Tables.{Tables}
 use Rattle.decision_steps.specs.Request.{asked, write}
 use Rattle.instance_encode.specs.Instances.{instance, statusColumn}

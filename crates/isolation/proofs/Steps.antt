@@ -3,7 +3,7 @@
 -- orderly. Assumes nothing.
 use mathlib.Core.Path.{_≡_, refl, ap}
 use mathlib.Core.Bool.{Bool, true, false, _&&_}
-use Rattle.lists.proofs.Bools.{split, and-both}
+use Rattle.numbers.proofs.Bools.{split, and-both}
 use Rattle.rows.specs.Tables.{Tables}
 use Rattle.edit_rules.specs.Edits.{Edit}
 use Rattle.edits.specs.Does.{Call, ask, owner, by, Reply, decided}

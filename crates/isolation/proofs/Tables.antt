@@ -9,13 +9,13 @@ use mathlib.Core.Option.{none, some}
 use Prim.Native.Nat.{ℕ, _≤_}
 use native.Mathlib.Omega.{arith}
 use lib.ListN.{length}
-use Rattle.lists.specs.Lists.{keep, every, first, find}
-use Rattle.lists.specs.Order.{same, before}
-use Rattle.lists.proofs.Bools.{split, clash, and-left, and-right, cond-same}
-use Rattle.lists.proofs.Orders.{same-true, same-sym, before-not-same, before-total}
-use Rattle.lists.proofs.Keeps.{keep-keep, find-first}
-use Rattle.lists.proofs.Greatest.{Under, Ascends, under-trans, under-keep}
-use Rattle.lists.proofs.Ascending.{none-under}
+use Rattle.numbers.specs.Lists.{keep, every, first, find}
+use Rattle.numbers.specs.Order.{same, before}
+use Rattle.numbers.proofs.Bools.{split, clash, and-left, and-right, cond-same}
+use Rattle.numbers.proofs.Orders.{same-true, same-sym, before-not-same, before-total}
+use Rattle.numbers.proofs.Keeps.{keep-keep, find-first}
+use Rattle.numbers.proofs.Greatest.{Under, Ascends, under-trans, under-keep}
+use Rattle.numbers.proofs.Ascending.{none-under}
 use Rattle.rows.specs.declared.Operation.{Operation}
 use Rattle.rows.specs.declared.Operation.the-variants.{Put, Remove}
 use Rattle.table_update.specs.Tables.{rowAt, putRow, removeRow}

@@ -8,8 +8,8 @@ use mathlib.Core.List.{List, [], _∷_, map}
 use mathlib.Core.Option.{some}
 use Prim.Native.Nat.{ℕ}
 use lib.Dec.{eqb}
-use Rattle.lists.specs.Lists.{keep, every}
-use Rattle.lists.specs.Order.{same}
+use Rattle.numbers.specs.Lists.{keep, every}
+use Rattle.numbers.specs.Order.{same}
 use Rattle.rows.specs.declared.Operation.{Operation}
 use Rattle.rows.specs.declared.Operation.the-variants.{Put, Remove}
 use Rattle.rows.specs.declared.Table.{Table}

@@ -7,7 +7,7 @@ use lib.Dec.{ltb}
 use lib.ListN.{length, take, drop, length-append, drop-of-length-le}
 use lib.Seq.{length-take-le, take-take, take-nil, take-all, take-add, take-at, drop-at}
 use borrow.Author.Tests.{ltb-true, ltb-false}
-use Rattle.lists.proofs.Bools.{split as by}
+use Rattle.numbers.proofs.Bools.{split as by}
 use Rattle.text_words.specs.Words.{between}
 
 pub between-drop : (from end : ℕ) (w : List ℕ) → from ≤ end → between from end w ≡ drop from (take end w)

@@ -11,7 +11,7 @@ use lib.Dec.{ltb}
 use lib.ListN.{length, take, drop, set, length-append, drop-of-length-le, List·getD-append}
 use lib.Seq.{length-take-le, drop-cons, getD-set-same, getD-set-other, getD-at, getD-take}
 use borrow.Author.Tests.{ltb-true, ltb-false}
-use Rattle.lists.proofs.Bools.{split as by}
+use Rattle.numbers.proofs.Bools.{split as by}
 use Rattle.text_words.specs.Words.{wordsFrom}
 use Rattle.text_words.proofs.WordsFrom.{none-from, word-over}
 use Rattle.text_fields.specs.RowWords.{Roomy}

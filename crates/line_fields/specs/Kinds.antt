@@ -9,8 +9,8 @@ use mathlib.Core.List.{List, [], _∷_}
 use mathlib.Core.Option.{Option, none, some, bind, Option·map}
 use Prim.Native.Nat.{ℕ}
 use lib.ListN.{getD}
-use Rattle.lists.specs.Lists.{find}
-use Rattle.lists.specs.Order.{same}
+use Rattle.numbers.specs.Lists.{find}
+use Rattle.numbers.specs.Order.{same}
 use Rattle.rows.specs.declared.Table.{Table}
 use Rattle.rows.specs.declared.Table.the-variants.{Context}
 use Rattle.rows.specs.declared.Operation.{Operation}

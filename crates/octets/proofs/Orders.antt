@@ -10,12 +10,12 @@ use lib.Dec.{ltb}
 use lib.ListN.{length, take, drop, getD, length-drop, take-append-drop, drop-of-length-le}
 use lib.Seq.{drop-cons}
 use borrow.Author.Tests.{lt-ltb, le-ltb, ne-eqb, ltb-true, ltb-false}
-use Rattle.lists.specs.Order.{same, before}
-use Rattle.lists.proofs.Bools.{split}
-use Rattle.lists.proofs.Orders.{Tri, tri, below, equal, above, same-append, same-refl, same-true, before-append, before-irrefl, before-total, before-cons-lt}
-use Rattle.lists.proofs.Orders.{before-cons-gt, before-cons-eq}
-use Rattle.big_endian.specs.BigEndian.{quad, number, Octets}
-use Rattle.big_endian.proofs.BigEndian.{octets-drop}
+use Rattle.numbers.specs.Order.{same, before}
+use Rattle.numbers.proofs.Bools.{split}
+use Rattle.numbers.proofs.Orders.{Tri, tri, below, equal, above, same-append, same-refl, same-true, before-append, before-irrefl, before-total, before-cons-lt}
+use Rattle.numbers.proofs.Orders.{before-cons-gt, before-cons-eq}
+use Rattle.numbers.specs.BigEndian.{quad, number, Octets}
+use Rattle.numbers.proofs.BigEndian.{octets-drop}
 use Rattle.octets.proofs.Sames.{take-whole}
 use Rattle.octets.specs.Order.{order}
 use Rattle.octets.specs.declared.Order.{Order}

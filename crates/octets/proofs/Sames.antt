@@ -11,9 +11,9 @@ use lib.Dec.{eqb}
 use lib.ListN.{length, take, drop, getD, length-drop}
 use lib.Seq.{take-suc, take-add, take-all}
 use borrow.Author.Tests.{eq-eqb, eqb-true}
-use Rattle.lists.proofs.Bools.{test-ext, and-left, and-right, and-both}
-use Rattle.big_endian.specs.BigEndian.{quad, number, bytes, Octets}
-use Rattle.big_endian.proofs.BigEndian.{octets-drop, bytes-number, quad-front}
+use Rattle.numbers.proofs.Bools.{test-ext, and-left, and-right, and-both}
+use Rattle.numbers.specs.BigEndian.{quad, number, bytes, Octets}
+use Rattle.numbers.proofs.BigEndian.{octets-drop, bytes-number, quad-front}
 use Rattle.octets.specs.Same.{sameFour, sameEight}
 
 -- four octets are the same exactly where the numbers are that they say

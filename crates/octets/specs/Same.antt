@@ -4,7 +4,7 @@ use mathlib.Core.List.{List}
 use Prim.Native.Nat.{ℕ, _+_}
 use lib.Dec.{eqb}
 use lib.ListN.{drop}
-use Rattle.big_endian.specs.BigEndian.{quad, number}
+use Rattle.numbers.specs.BigEndian.{quad, number}
 
 -- the four octets at i are the same, as the numbers are that they say; the eight
 abbrev pub sameFour : List ℕ → List ℕ → ℕ → Bool

@@ -2,7 +2,7 @@
 ghost use mathlib.Core.Path.{_≡_};
 ghost use Prim.Native.Nat.{_+_, _≤_, min};
 ghost use lib.ListN.{length, take};
-ghost use Rattle.lists.specs.Order.{same, before};
+ghost use Rattle.numbers.specs.Order.{same, before};
 ghost use Rattle.octets.specs.Same.{sameFour, sameEight};
 ghost use Rattle.octets.specs.Order.{order};
 
@@ -116,8 +116,8 @@ pub fn ascends(a: &[u8], b: &[u8]) -> bool
     let n = shorter(a.len(), b.len());
     let mut i = skip(a, b, skip_long(a, b, n), n);
     if 4 <= n - i {
-        let x = big_endian::quad_at(a, i);
-        let y = big_endian::quad_at(b, i);
+        let x = numbers::quad_at(a, i);
+        let y = numbers::quad_at(b, i);
         if x != y {
             return x < y;
         }

@@ -7,7 +7,7 @@ use lib.Dec.{leb}
 use lib.ListN.{length, take, length-take}
 use lib.Seq.{length-take-le, take-all, take-append-add, take-paste, take-take, paste}
 use borrow.Author.Tests.{leb-true, leb-false}
-use Rattle.lists.proofs.Bools.{split as by}
+use Rattle.numbers.proofs.Bools.{split as by}
 
 take-min : (k m : ℕ) (v : List ℕ) → take m (take k v) ≡ take (min k m) v
 take-min k m v =

@@ -10,7 +10,7 @@ use lib.Dec.{eqb, ltb}
 use lib.ListN.{length, take, drop, getD, length-append, take-append-drop}
 use lib.Seq.{drop-cons, length-take-le, take-all, take-length}
 use borrow.Author.Tests.{eqb-true, ltb-true, ltb-false, lt-leb}
-use Rattle.lists.proofs.Bools.{split as by}
+use Rattle.numbers.proofs.Bools.{split as by}
 use Rattle.rows.specs.Tables.{Tables}
 use Rattle.text_words.specs.Words.{longer, split, run}
 use Rattle.text_words.specs.Words.{longest}

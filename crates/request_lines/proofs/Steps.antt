@@ -8,7 +8,7 @@ use lib.Dec.{ltb}
 use lib.ListN.{length, take, drop, length-drop}
 use lib.Seq.{drop-drop, drop-length, length-take-le}
 use borrow.Author.Tests.{ltb-true, ltb-false}
-use Rattle.lists.proofs.Bools.{split as by}
+use Rattle.numbers.proofs.Bools.{split as by}
 use Rattle.rows.specs.Tables.{Tables}
 use Rattle.program_input.specs.declared.Continued.{Continued}
 use Rattle.program_input.specs.Lines.{Continues}

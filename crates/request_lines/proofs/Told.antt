@@ -5,9 +5,9 @@ use mathlib.Core.List.{List, [], _∷_, _++_}
 use Prim.Native.Nat.{ℕ, _+_, _≤_}
 use native.Mathlib.Omega.{arith}
 use lib.ListN.{length, take, length-append}
-use Rattle.lists.proofs.Laid.{take-laid}
+use Rattle.numbers.proofs.Laid.{take-laid}
 use Rattle.text_values.specs.Texts.{decimalText, Puts}
-use Rattle.lists.specs.Laid.{laid}
+use Rattle.numbers.specs.Laid.{laid}
 use Rattle.text_values.proofs.Digits.{length-decimal}
 use Rattle.text_values.proofs.Puts.{Onward, start, step, last}
 use Rattle.request_lines.specs.Lines.{mostTold, told}

@@ -3,7 +3,7 @@ use mathlib.Core.Path.{_≡_, refl}
 use mathlib.Core.List.{List, [], _∷_}
 use mathlib.Core.Option.{bind}
 use Prim.Native.Nat.{ℕ}
-use Rattle.lists.specs.Order.{same, before}
+use Rattle.numbers.specs.Order.{same, before}
 use Rattle.rows.specs.Fields.{sequenceFault, integerFault, faults}
 use Rattle.rows.specs.Rows.{keyFields, rowFields}
 use Rattle.image_layout.specs.Layout.{laidOut, layoutOf}

@@ -1,6 +1,6 @@
 -- P1 to P12 hold, one after the other: what the definitions give computes, of the C call from the very bytes of the image. Assumes nothing.
 use mathlib.Core.Path.{refl}
-use Rattle.lists.specs.Order.{same, before, begins}
+use Rattle.numbers.specs.Order.{same, before, begins}
 use Rattle.rows.specs.Fields.{sequenceFault, integerFault, faults}
 use Rattle.rows.specs.Rows.{keyFields, rowFields}
 use Rattle.image_layout.specs.Layout.{laidOut, layoutOf}

@@ -1,7 +1,7 @@
 -- The bytes of `ridgeImage` have no fault, and the tables read off them are the Ridge tables: both sides compute. Assumes nothing.
 use mathlib.Core.Path.{_≡_, refl}
 use mathlib.Core.Option.{none}
-use Rattle.lists.specs.Order.{same, before}
+use Rattle.numbers.specs.Order.{same, before}
 use Rattle.rows.specs.Fields.{sequenceFault, integerFault, faults}
 use Rattle.rows.specs.Rows.{keyFields, rowFields}
 use Rattle.image_layout.specs.Layout.{laidOut, layoutOf}

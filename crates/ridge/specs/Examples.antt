@@ -4,7 +4,7 @@ use mathlib.Core.List.{List, [], _∷_}
 use mathlib.Core.Option.{some}
 use Prim.Native.Nat.{ℕ}
 use Rattle.answers.specs.Numbers.{answerNumber}
-use Rattle.big_endian.specs.BigEndian.{quad, bytesOf}
+use Rattle.numbers.specs.BigEndian.{quad, bytesOf}
 use Rattle.rows.specs.declared.Table.{Table}
 use Rattle.rows.specs.declared.Table.the-variants.{Mapping}
 use Rattle.rows.specs.Fields.{index}

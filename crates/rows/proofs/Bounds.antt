@@ -9,7 +9,7 @@ use native.Mathlib.Omega.{arith}
 use lib.ListN.{length, take, drop, getD, length-drop}
 use Rattle.rows.specs.declared.Table.{Table}
 use Rattle.rows.specs.declared.Table.the-variants.{Context, Mapping, Access, View}
-use Rattle.big_endian.specs.BigEndian.{size}
+use Rattle.numbers.specs.BigEndian.{size}
 use Rattle.rows.specs.Fields.{Field, sequence, integer, fault, taken, faults}
 use Rattle.rows.specs.Rows.{keyFields, rowFields, rowMax, keyMax}
 use Rattle.rows.proofs.Sound.{within-most, sequence-range, field-room, faults-first, faults-rest, faults-end}

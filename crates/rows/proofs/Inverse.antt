@@ -12,10 +12,10 @@ use lib.ListN.{length, take, drop, getD, length-append, length-drop}
 use lib.Seq.{take-all, take-add, drop-at}
 use lib.Dec.{ltb}
 use borrow.Author.Tests.{le-leb, lt-ltb, ltb-true}
-use Rattle.lists.proofs.Bools.{clash, and-left, and-right, and-both}
-use Rattle.big_endian.specs.BigEndian.{size, bound, number, bytes, numbers, bytesOf, fit, Octets}
-use Rattle.big_endian.proofs.BigEndian.{length-bytes, number-bytes, length-bytesOf, numbers-bytesOf, octets-drop, number-bound, bytes-number, length-numbers}
-use Rattle.big_endian.proofs.BigEndian.{bytesOf-numbers, fit-numbers}
+use Rattle.numbers.proofs.Bools.{clash, and-left, and-right, and-both}
+use Rattle.numbers.specs.BigEndian.{size, bound, number, bytes, numbers, bytesOf, fit, Octets}
+use Rattle.numbers.proofs.BigEndian.{length-bytes, number-bytes, length-bytesOf, numbers-bytesOf, octets-drop, number-bound, bytes-number, length-numbers}
+use Rattle.numbers.proofs.BigEndian.{bytesOf-numbers, fit-numbers}
 use Rattle.rows.specs.Fields.{Field, sequence, integer, within, sequenceFault, integerFault, fault, taken, value, faults, values, span, fieldBytes}
 use Rattle.rows.specs.Fields.{rowBytes, legal, legals}
 use Rattle.rows.proofs.Sound.{sequence-range, sequence-room, integer-range, integer-room, faults-first, faults-rest, faults-end}

@@ -11,11 +11,11 @@ use native.Mathlib.Omega.{arith}
 use lib.ListN.{length, take}
 use lib.Dec.{eqb}
 use borrow.Author.Tests.{eq-eqb, ne-eqb}
-use Rattle.lists.specs.Order.{same, before}
-use Rattle.lists.proofs.Bools.{clash, and-assoc}
-use Rattle.lists.proofs.Orders.{Tri, tri, below, equal, above, before-cons-lt, before-cons-gt, before-cons-eq, before-irrefl}
+use Rattle.numbers.specs.Order.{same, before}
+use Rattle.numbers.proofs.Bools.{clash, and-assoc}
+use Rattle.numbers.proofs.Orders.{Tri, tri, below, equal, above, before-cons-lt, before-cons-gt, before-cons-eq, before-irrefl}
 use Rattle.rows.specs.declared.Table.{Table}
-use Rattle.big_endian.specs.BigEndian.{Width, octet, quad, bytes, bytesOf, Octets}
+use Rattle.numbers.specs.BigEndian.{Width, octet, quad, bytes, bytesOf, Octets}
 use Rattle.rows.specs.Fields.{Field, sequence, integer, faults, values, span, fieldBytes, rowBytes, legal, legals, indexField, index}
 use Rattle.rows.specs.Rows.{keyFields, restFields, rowFields}
 use Rattle.rows.proofs.Appends.{row-split, key-values}

@@ -10,10 +10,10 @@ use native.Mathlib.Omega.{arith}
 use lib.ListN.{length, take, drop, getD, length-drop}
 use lib.Seq.{drop-drop}
 use Rattle.rows.specs.declared.Table.the-variants.{Mapping, Access, View}
-use Rattle.big_endian.specs.BigEndian.{Width, octet, quad, size, number, numbers}
+use Rattle.numbers.specs.BigEndian.{Width, octet, quad, size, number, numbers}
 use Rattle.rows.specs.Fields.{Field, sequence, integer, fault, taken, value, faults, values, span}
 use Rattle.rows.specs.Rows.{rowFields, numberAt, mappingOf, accessOf, viewOf}
-use Rattle.big_endian.proofs.BigEndian.{getD-front}
+use Rattle.numbers.proofs.BigEndian.{getD-front}
 use Rattle.rows.proofs.Sound.{within-least, within-most, sequence-range, sequence-room, integer-range, integer-room, field-room, faults-first}
 use Rattle.rows.proofs.Sound.{faults-rest, faults-end}
 use Rattle.rows.proofs.Appends.{values-append, faults-append}

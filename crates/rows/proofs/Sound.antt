@@ -9,8 +9,8 @@ use lib.ListN.{length, drop, getD}
 use lib.Dec.{leb, ltb, eqb}
 use borrow.Author.Tests.{leb-true, eqb-true}
 use Rattle.answers.specs.declared.Fault.{Fault}
-use Rattle.lists.proofs.Bools.{and-left, and-right}
-use Rattle.big_endian.specs.BigEndian.{Width, size, number}
+use Rattle.numbers.proofs.Bools.{and-left, and-right}
+use Rattle.numbers.specs.BigEndian.{Width, size, number}
 use Rattle.rows.specs.Fields.{Field, sequence, integer, within, sequenceFault, integerFault, fault, taken, faults, orElse}
 
 -- a test that guards against a fault passed where there is none

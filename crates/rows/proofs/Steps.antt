@@ -12,11 +12,11 @@ use lib.ListN.{length, drop, getD, length-drop}
 use lib.Dec.{leb}
 use borrow.Author.Tests.{le-leb, lt-leb, lt-ltb, le-ltb, eq-eqb, ne-eqb}
 use Rattle.answers.specs.declared.Fault.the-variants.{Torn, OutOfRange}
-use Rattle.lists.proofs.Bools.{and-both, and-false-left, and-false-right}
-use Rattle.big_endian.proofs.BigEndian.{getD-front}
+use Rattle.numbers.proofs.Bools.{and-both, and-false-left, and-false-right}
+use Rattle.numbers.proofs.BigEndian.{getD-front}
 use Rattle.rows.specs.declared.Step.{Step}
 use Rattle.rows.specs.declared.Step.the-variants.{At, Bad}
-use Rattle.big_endian.specs.BigEndian.{Width, octet, size, number}
+use Rattle.numbers.specs.BigEndian.{Width, octet, size, number}
 use Rattle.rows.specs.Fields.{within, sequenceFault, integerFault, faults}
 use Rattle.rows.specs.Steps.{reached, sequenceStep, integerStep}
 

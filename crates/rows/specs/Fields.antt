@@ -5,7 +5,7 @@ use mathlib.Core.Option.{Option, none, some}
 use Prim.Native.Nat.{ℕ, _+_, _*_}
 use lib.Dec.{eqb, leb, ltb}
 use lib.ListN.{length, drop, getD}
-use Rattle.big_endian.specs.BigEndian.{Width, size, bound, number, bytes, numbers, bytesOf, fit}
+use Rattle.numbers.specs.BigEndian.{Width, size, bound, number, bytes, numbers, bytesOf, fit}
 use Rattle.answers.specs.declared.Fault.{Fault}
 use Rattle.answers.specs.declared.Fault.the-variants.{Torn, OutOfRange}
 

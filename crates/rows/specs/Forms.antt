@@ -5,7 +5,7 @@ use lib.ListN.{getD}
 use Rattle.rows.specs.declared.Form.{Form}
 use Rattle.rows.specs.declared.Form.the-variants.{Name, Subtree, Large, Small}
 use Rattle.rows.specs.Fields.{Field, sequence, integer}
-use Rattle.big_endian.specs.BigEndian.{octet, quad}
+use Rattle.numbers.specs.BigEndian.{octet, quad}
 
 -- the field that a form stands for, and the most bytes that it takes
 abbrev pub fieldOf : Form → Field

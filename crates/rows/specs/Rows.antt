@@ -5,7 +5,7 @@ use lib.ListN.{getD}
 use Rattle.rows.specs.declared.Table.{Table}
 use Rattle.rows.specs.declared.Table.the-variants.{Context, Mapping, Access, View}
 use Rattle.rows.specs.Fields.{Field, sequence, integer, values, index}
-use Rattle.big_endian.specs.BigEndian.{octet, quad}
+use Rattle.numbers.specs.BigEndian.{octet, quad}
 
 -- ---- fields of several tables
 

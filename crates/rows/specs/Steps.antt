@@ -7,7 +7,7 @@ use Rattle.answers.specs.declared.Fault.{Fault}
 use Rattle.rows.specs.declared.Step.{Step}
 use Rattle.rows.specs.declared.Step.the-variants.{At, Bad}
 use Rattle.rows.specs.declared.Table.{Table}
-use Rattle.big_endian.specs.BigEndian.{Width, size}
+use Rattle.numbers.specs.BigEndian.{Width, size}
 use Rattle.rows.specs.Fields.{Field, sequenceFault, integerFault, fault, taken, fronts, faults, span}
 use Rattle.rows.specs.Rows.{keyFields, rowFields}
 

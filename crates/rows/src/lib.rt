@@ -4,7 +4,7 @@ ghost use mathlib.Core.Path.{_≡_};
 ghost use Prim.Native.Nat.{_≤_, _<_};
 ghost use lib.ListN.{length, take, drop};
 ghost use mathlib.Core.List.{[], _++_};
-ghost use Rattle.big_endian.specs.BigEndian.{quad};
+ghost use Rattle.numbers.specs.BigEndian.{quad};
 ghost use Rattle.rows.specs.Fields.{within, faults};
 ghost use Rattle.rows.specs.Rows.{mappingKey, mappingRest, accessKey, accessRest, viewKey, viewRest, keyFields, rowFields, limit};
 ghost use Rattle.rows.specs.Forms.{fieldOf, fieldIn};
@@ -195,7 +195,7 @@ fn sequence(row: &[u8], at: usize, size: usize, lo: usize, hi: usize) -> Step
     if row.len() <= at {
         return Step::Bad(Fault::Torn);
     }
-    let n = big_endian::wide(row[at]);
+    let n = numbers::wide(row[at]);
     if !within(lo, hi, n) {
         return Step::Bad(Fault::OutOfRange);
     }
@@ -214,7 +214,7 @@ fn large(row: &[u8], at: usize, lo: usize, hi: usize) -> Step
     if row.len() - at < 4 {
         return Step::Bad(Fault::Torn);
     }
-    let n = big_endian::quad_at(row, at);
+    let n = numbers::quad_at(row, at);
     if !within(lo, hi, n) {
         return Step::Bad(Fault::OutOfRange);
     }

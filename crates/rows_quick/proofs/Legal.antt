@@ -10,17 +10,17 @@ use native.Mathlib.Omega.{arith}
 use lib.ListN.{length, drop, getD}
 use lib.Dec.{eqb}
 use borrow.Author.Tests.{eqb-true}
-use Rattle.lists.proofs.Bools.{and-left, and-right}
+use Rattle.numbers.proofs.Bools.{and-left, and-right}
 use Rattle.rows.specs.declared.Step.{Step}
 use Rattle.rows.specs.declared.Step.the-variants.{At}
 use Rattle.rows.specs.declared.Table.{Table}
 use Rattle.rows.specs.declared.Table.the-variants.{Context, Mapping, Access, View}
-use Rattle.big_endian.specs.BigEndian.{Width, octet, quad, size, number}
+use Rattle.numbers.specs.BigEndian.{Width, octet, quad, size, number}
 use Rattle.rows.specs.Fields.{Field, sequence, integer, within, faults, span}
 use Rattle.rows.specs.Rows.{modelMax, storage, activity, keyFields, restFields, rowFields}
 use Rattle.rows.specs.Steps.{rowStep, fieldsStep}
 use Rattle.rows_quick.specs.Quick.{Fits, endsWell}
-use Rattle.big_endian.proofs.BigEndian.{getD-front}
+use Rattle.numbers.proofs.BigEndian.{getD-front}
 use Rattle.rows.proofs.Steps.{sequence-whole, integer-whole, ended}
 use Rattle.rows.proofs.Appends.{row-split}
 use Rattle.rows.proofs.Walks.{Walk, start, go, arrive, reached-at, fields-end, fields-go, fields-whole}

@@ -32,7 +32,7 @@ fn byte_at(row: &[u8], at: usize) -> usize
     ensures value { λ r. ⌜ r ≡ getD (now (row .entry)) at 0 ⌝ }
     ensures bounded { λ r. ⌜ r < 256 ⌝ }
 {
-    big_endian::wide(row[at])
+    numbers::wide(row[at])
 }
 
 // A storage and a status as the last bytes.
@@ -69,7 +69,7 @@ fn mapping_end(row: &[u8]) -> usize
     if n < 10 {
         return 0;
     }
-    let model = big_endian::quad_at(row, 0);
+    let model = numbers::quad_at(row, 0);
     let name = byte_at(row, 4);
     let a = 5 + name;
     if n < a + 4 {
@@ -130,7 +130,7 @@ fn access_end(row: &[u8]) -> usize
     if n < b + 11 {
         return 0;
     }
-    let model = big_endian::quad_at(row, b);
+    let model = numbers::quad_at(row, b);
     let level = byte_at(row, b + 4);
     let key = b + 5;
     if !(within(1, 32, group)

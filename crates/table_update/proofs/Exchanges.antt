@@ -12,9 +12,9 @@ use lib.Dec.{eqb, ltb}
 use lib.ListN.{length, take, drop, getD, set, length-append, length-drop, length-set, take-append-drop, List·getD-map}
 use lib.Seq.{drop-cons, drop-drop, length-take-le, set-append-left}
 use borrow.Author.Tests.{lt-ltb, eq-eqb, ne-eqb, eqb-true}
-use Rattle.lists.proofs.Bools.{split, test-ext}
+use Rattle.numbers.proofs.Bools.{split, test-ext}
 use Rattle.rows.specs.declared.Table.{Table}
-use Rattle.big_endian.specs.BigEndian.{Octets}
+use Rattle.numbers.specs.BigEndian.{Octets}
 use Rattle.image_layout.specs.declared.Extent.{Extent}
 use Rattle.image_layout.specs.Layout.{total, lengthsIn, rowsIn, endOf, countsSize, header, middle, rowCount, imageEnd, mostRows}
 use Rattle.splice.specs.Splice.{splicedTwo}

@@ -9,8 +9,8 @@ use lib.Dec.{ltb}
 use lib.ListN.{length, take, drop, getD, set, length-append, length-drop, length-take, take-append-drop}
 use lib.Seq.{length-take-le}
 use Rattle.rows.specs.declared.Table.{Table}
-use Rattle.big_endian.specs.BigEndian.{Octets}
-use Rattle.big_endian.proofs.BigEndian.{octets-drop, octets-take}
+use Rattle.numbers.specs.BigEndian.{Octets}
+use Rattle.numbers.proofs.BigEndian.{octets-drop, octets-take}
 use Rattle.splice.specs.Splice.{splicedTwo}
 use Rattle.image_layout.specs.declared.Extent.{Extent}
 use Rattle.image_layout.specs.Layout.{total, lengthsIn, rowsIn}

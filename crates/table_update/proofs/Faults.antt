@@ -10,9 +10,9 @@ use native.Mathlib.Nat.{suc-add, suc-mul}
 use native.Mathlib.Omega.{arith}
 use lib.ListN.{length, take, drop, length-append, length-drop}
 use lib.Seq.{length-take-le}
-use Rattle.lists.specs.Order.{same, before}
-use Rattle.lists.proofs.Bools.{split}
-use Rattle.lists.proofs.Orders.{before-trans}
+use Rattle.numbers.specs.Order.{same, before}
+use Rattle.numbers.proofs.Bools.{split}
+use Rattle.numbers.proofs.Orders.{before-trans}
 use Rattle.rows.specs.declared.Table.{Table}
 use Rattle.rows.specs.declared.Table.the-variants.{Context, Mapping, Access, View}
 use Rattle.rows.specs.Fields.{faults}

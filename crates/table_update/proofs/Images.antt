@@ -7,8 +7,8 @@ use Prim.Native.Nat.{ℕ, _+_, _-_, _*_, _≤_}
 use native.Mathlib.Omega.{arith}
 use lib.ListN.{length, take, drop, length-append, length-drop, take-append-drop}
 use lib.Seq.{take-add, take-at, drop-at, drop-drop, length-take-le}
-use Rattle.big_endian.specs.BigEndian.{Octets}
-use Rattle.big_endian.proofs.BigEndian.{octets-drop}
+use Rattle.numbers.specs.BigEndian.{Octets}
+use Rattle.numbers.proofs.BigEndian.{octets-drop}
 use Rattle.image_layout.specs.Layout.{pairs, total, cut, countsSize, header, middle, rowCount, imageEnd}
 use Rattle.table_update.proofs.Written.{concatenated, concatenated-inj, pairsOf, pairsOf-pairs, heads, length-heads, pairs-heads, total-lengths}
 use Rattle.table_update.proofs.Written.{cut-joined, lengths-cut, joined-cut}

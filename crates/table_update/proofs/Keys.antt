@@ -9,15 +9,15 @@ use Prim.Native.Nat.{ℕ}
 use lib.Dec.{eqb, ltb}
 use lib.ListN.{length, take, drop, take-append-drop}
 use lib.Seq.{take-at}
-use Rattle.lists.specs.Order.{same, before}
-use Rattle.lists.proofs.Bools.{split, test-ext, and-left}
-use Rattle.lists.proofs.Orders.{same-true, same-eq, before-total}
+use Rattle.numbers.specs.Order.{same, before}
+use Rattle.numbers.proofs.Bools.{split, test-ext, and-left}
+use Rattle.numbers.proofs.Orders.{same-true, same-eq, before-total}
 use Rattle.rows.specs.declared.Table.{Table}
 use Rattle.rows.specs.Fields.{Field, faults, span, values, index}
 use Rattle.rows.specs.Rows.{keyFields, rowFields, restFields, indexOf}
 use Rattle.rows.proofs.Appends.{row-split}
-use Rattle.big_endian.specs.BigEndian.{Octets}
-use Rattle.big_endian.proofs.BigEndian.{octets-drop, octets-take}
+use Rattle.numbers.specs.BigEndian.{Octets}
+use Rattle.numbers.proofs.BigEndian.{octets-drop, octets-take}
 use Rattle.rows.proofs.Inverse.{bytes-front, legals-front, bytes-again, legals-read}
 use Rattle.rows.proofs.Order.{Compares, compares-row, compares-same, compares-keys}
 use Rattle.image_layout.specs.declared.Extent.{Extent}

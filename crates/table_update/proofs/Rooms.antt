@@ -15,7 +15,7 @@ use Rattle.rows.specs.declared.Table.the-variants.{Context, Mapping, Access, Vi
 use Rattle.rows.specs.Fields.{faults}
 use Rattle.rows.specs.Rows.{rowFields, limit, indexOf}
 use Rattle.rows.proofs.Bounds.{longestRow, longest-most, row-bounded}
-use Rattle.big_endian.specs.BigEndian.{Octets}
+use Rattle.numbers.specs.BigEndian.{Octets}
 use Rattle.image_layout.specs.Layout.{pairs, total, endOf, header, count, layoutOf, laidOut, extentOf, imageEnd}
 use Rattle.image_judge.specs.Faults.{tableFault}
 use Rattle.image.specs.Store.{room, isSound}

@@ -9,8 +9,8 @@ use native.Mathlib.Nat.{add-zero}
 use native.Mathlib.Omega.{arith}
 use lib.ListN.{take, drop, getD, take-append-drop}
 use lib.Seq.{drop-drop, getD-drop}
-use Rattle.lists.specs.Order.{same, before}
-use Rattle.lists.proofs.Orders.{same-refl, same-sym, before-irrefl, before-asym, before-not-same}
+use Rattle.numbers.specs.Order.{same, before}
+use Rattle.numbers.proofs.Orders.{same-refl, same-sym, before-irrefl, before-asym, before-not-same}
 use Rattle.octets.specs.declared.Order.{Order}
 use Rattle.octets.specs.declared.Order.the-variants.{Below, Equal, Above}
 use Rattle.octets.specs.Order.{order}

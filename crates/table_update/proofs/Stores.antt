@@ -11,14 +11,14 @@ use lib.Dec.{eqb}
 use lib.ListN.{length, take}
 use lib.Seq.{take-nil}
 use borrow.Author.Tests.{eq-eqb, ne-eqb, eqb-true, le-leb}
-use Rattle.lists.specs.Order.{before}
-use Rattle.lists.proofs.Bools.{clash, split, cond-true, cond-false, and-both}
-use Rattle.lists.proofs.Greatest.{Ascends}
+use Rattle.numbers.specs.Order.{before}
+use Rattle.numbers.proofs.Bools.{clash, split, cond-true, cond-false, and-both}
+use Rattle.numbers.proofs.Greatest.{Ascends}
 use Rattle.rows.specs.declared.Table.{Table}
 use Rattle.rows.specs.declared.Table.the-variants.{Context, Mapping, Access, View}
 use Rattle.rows.specs.Fields.{faults, span}
 use Rattle.rows.specs.Rows.{keyFields, rowFields, limit, indexOf}
-use Rattle.big_endian.specs.BigEndian.{Octets}
+use Rattle.numbers.specs.BigEndian.{Octets}
 use Rattle.image_layout.specs.declared.Extent.{Extent}
 use Rattle.image_layout.specs.Layout.{rowsIn, count, rowCount, imageEnd, withinLimits, mostRows, layoutOf, laidOut, extentOf}
 use Rattle.image_layout.proofs.Limits.{within-limits, limits-within, few}

@@ -8,17 +8,17 @@ use mathlib.Core.Option.{none, some}
 use Prim.Native.Nat.{ℕ}
 use native.Mathlib.Nat.{suc-add}
 use lib.ListN.{getD}
-use Rattle.lists.specs.Lists.{find}
-use Rattle.lists.specs.Order.{same, before}
-use Rattle.lists.proofs.Bools.{clash, cond-true, cond-false}
-use Rattle.lists.proofs.Orders.{same-eq, same-sym, before-asym, before-not-same}
-use Rattle.lists.proofs.Greatest.{Under, Ascends, under-trans}
+use Rattle.numbers.specs.Lists.{find}
+use Rattle.numbers.specs.Order.{same, before}
+use Rattle.numbers.proofs.Bools.{clash, cond-true, cond-false}
+use Rattle.numbers.proofs.Orders.{same-eq, same-sym, before-asym, before-not-same}
+use Rattle.numbers.proofs.Greatest.{Under, Ascends, under-trans}
 use Rattle.rows.specs.declared.Table.{Table}
 use Rattle.rows.specs.declared.Table.the-variants.{Context, Mapping, Access, View}
 use Rattle.rows.specs.Fields.{faults, index}
 use Rattle.rows.specs.Rows.{keyFields, rowFields, contextKey, contextFields, contextOf, mappingKey, mappingFields, mappingOf, accessKey, accessFields}
 use Rattle.rows.specs.Rows.{accessOf, viewKey, viewFields, viewOf, indexOf}
-use Rattle.big_endian.specs.BigEndian.{Octets}
+use Rattle.numbers.specs.BigEndian.{Octets}
 use Rattle.table_update.specs.Exchange.{oneIf, rowsBefore, isHeld, exchanged}
 use Rattle.table_update.specs.Tables.{rowAt, putRow, removeRow}
 use Rattle.table_update.proofs.Keys.{KeyOf, Stand, lower, equal, upper, stands, Whole}

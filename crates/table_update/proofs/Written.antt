@@ -7,8 +7,8 @@ use Prim.Native.Nat.{ℕ, zero, suc, _+_, _*_, _/_, _%_, _≤_, _<_}
 use native.Mathlib.Omega.{arith}
 use lib.ListN.{length, take, drop, set, length-append, length-drop, length-map}
 use lib.Seq.{append-snoc, set-at, take-add, take-at, drop-at, drop-drop, length-take-le}
-use Rattle.big_endian.specs.BigEndian.{Octets}
-use Rattle.big_endian.proofs.BigEndian.{octets-drop}
+use Rattle.numbers.specs.BigEndian.{Octets}
+use Rattle.numbers.proofs.BigEndian.{octets-drop}
 use Rattle.image_layout.specs.Layout.{pair, pairs, total, cut}
 pub use Rattle.image_layout.specs.Written.{pairsOf, concatenated, heads}
 

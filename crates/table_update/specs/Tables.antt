@@ -3,8 +3,8 @@ use mathlib.Core.Bool.{cond}
 use mathlib.Core.List.{List, [], _∷_}
 use mathlib.Core.Option.{Option}
 use Prim.Native.Nat.{ℕ}
-use Rattle.lists.specs.Lists.{find}
-use Rattle.lists.specs.Order.{same, before}
+use Rattle.numbers.specs.Lists.{find}
+use Rattle.numbers.specs.Order.{same, before}
 
 module _ {R : Type 0} (indexOf : R → List ℕ) where
   -- the row with this index

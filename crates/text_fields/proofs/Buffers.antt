@@ -6,7 +6,7 @@ use native.Mathlib.Numerals.{add-one}
 use native.Mathlib.Omega.{arith}
 use lib.ListN.{length, take, drop, set, getD}
 use lib.Seq.{length-take-le, take-suc, take-append-le, take-append-add, take-set-lt, set-at}
-use Rattle.big_endian.specs.BigEndian.{octet, bytesOf}
+use Rattle.numbers.specs.BigEndian.{octet, bytesOf}
 
 -- w, of which the part from k on was lent and came back as b
 abbrev pub back : ℕ → ℕ → List ℕ → List ℕ → List ℕ

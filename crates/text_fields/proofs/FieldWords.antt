@@ -6,8 +6,8 @@ use Prim.Native.Nat.{ℕ, _≤_, _<_}
 use lib.Dec.{ltb}
 use lib.ListN.{length}
 use borrow.Author.Tests.{le-leb, lt-leb, lt-ltb, le-ltb, ltb-true}
-use Rattle.lists.proofs.Bools.{split as by}
-use Rattle.big_endian.specs.BigEndian.{Width, bound, bytes, bytesOf}
+use Rattle.numbers.proofs.Bools.{split as by}
+use Rattle.numbers.specs.BigEndian.{Width, bound, bytes, bytesOf}
 use Rattle.text_words.specs.Words.{digitsFrom, below32, decimal}
 use Rattle.text_words.proofs.Words.{never}
 use Rattle.text_fields.specs.FieldWords.{octetMost, counted, numbered}

@@ -7,7 +7,7 @@ use mathlib.Core.Option.{Option, none, some}
 use Prim.Native.Nat.{ℕ, suc, _*_}
 use lib.Dec.{leb, ltb}
 use lib.ListN.{length}
-use Rattle.big_endian.specs.BigEndian.{Width, octet, quad, bound, bytes, bytesOf}
+use Rattle.numbers.specs.BigEndian.{Width, octet, quad, bound, bytes, bytesOf}
 use Rattle.rows.specs.Fields.{Field, sequence, integer}
 use Rattle.text_words.specs.Words.{decimal, hexOctets, dotted}
 

@@ -8,7 +8,7 @@ use text_words::Word;
 ghost use mathlib.Core.Path.{_≡_};
 ghost use Prim.Native.Nat.{_+_, _≤_};
 ghost use lib.ListN.{length, take};
-ghost use Rattle.big_endian.specs.BigEndian.{octet, quad};
+ghost use Rattle.numbers.specs.BigEndian.{octet, quad};
 ghost use Rattle.rows.specs.Forms.{fieldOf};
 ghost use Rattle.rows.specs.Rows.{rowFields};
 ghost use Rattle.text_words.specs.Words.{longest, wordsFrom, decimal, hexOctets, dotted, Fills};
@@ -52,7 +52,7 @@ fn subtree(word: &[u8], out: &mut [u8], from: usize) -> Filled
     }
     let first = from + 1;
     let end = first + 4 * n;
-    big_endian::put_quads(&mut out[first..end], &parts[0..n]);
+    numbers::put_quads(&mut out[first..end], &parts[0..n]);
     out[from] = n as u8;
     Filled::Upto(end)
 }
@@ -65,7 +65,7 @@ fn large(word: &[u8], out: &mut [u8], from: usize) -> Filled
     let Number::Of(x) = text_words::decimal(word) else {
         return Filled::Malformed;
     };
-    big_endian::put_quad(out, from, x);
+    numbers::put_quad(out, from, x);
     Filled::Upto(from + 4)
 }
 

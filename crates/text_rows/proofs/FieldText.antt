@@ -5,7 +5,7 @@ use mathlib.Core.List.{List}
 use Prim.Native.Nat.{ℕ, _+_, _-_, _*_, _≤_}
 use native.Mathlib.Omega.{arith}
 use lib.ListN.{length, take, drop, getD, length-drop}
-use Rattle.big_endian.specs.BigEndian.{octet, quad}
+use Rattle.numbers.specs.BigEndian.{octet, quad}
 use Rattle.rows.specs.declared.Form.{Form}
 use Rattle.rows.specs.declared.Form.the-variants.{Name, Subtree, Large, Small}
 use Rattle.rows.specs.Fields.{sequence, integer, fault, value}

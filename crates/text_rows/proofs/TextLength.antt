@@ -8,11 +8,11 @@ use native.Mathlib.Omega.{arith}
 use lib.ListN.{length, drop, getD, length-append}
 use Rattle.rows.specs.declared.Table.{Table}
 use Rattle.rows.specs.declared.Table.the-variants.{Context, Mapping, Access, View}
-use Rattle.big_endian.specs.BigEndian.{octet, quad, number, numbers, Octets}
+use Rattle.numbers.specs.BigEndian.{octet, quad, number, numbers, Octets}
 use Rattle.rows.specs.Fields.{Field, sequence, integer, fault, taken, value, faults, values}
 use Rattle.rows.specs.Rows.{keyFields}
 use Rattle.rows.proofs.Sound.{faults-first, faults-rest}
-use Rattle.big_endian.proofs.BigEndian.{length-numbers, number-bound, octets-drop}
+use Rattle.numbers.proofs.BigEndian.{length-numbers, number-bound, octets-drop}
 use Rattle.rows.proofs.Places.{sequence-at}
 use Rattle.text_rows.specs.TableWords.{tableWord}
 use Rattle.text_rows.specs.FieldText.{fieldText}

@@ -4,7 +4,7 @@ use mathlib.Core.List.{List, [], _∷_}
 use mathlib.Core.Option.{some, bind}
 use Prim.Native.Nat.{ℕ}
 use lib.ListN.{take}
-use Rattle.lists.specs.Order.{same}
+use Rattle.numbers.specs.Order.{same}
 use Rattle.text_words.specs.Words.{split, words, decimal, digitsFrom, hexDigit, hexPairs, hexOctets}
 use Rattle.rows.specs.declared.Table.the-variants.{Mapping, Access, View}
 use Rattle.rows.specs.Rows.{keyFields, rowFields}

@@ -4,7 +4,7 @@ use mathlib.Core.List.{List}
 use mathlib.Core.Option.{none}
 use Prim.Native.Nat.{ℕ, _+_, _≤_}
 use lib.ListN.{length, drop, getD}
-use Rattle.big_endian.specs.BigEndian.{octet, quad}
+use Rattle.numbers.specs.BigEndian.{octet, quad}
 use Rattle.rows.specs.declared.Form.{Form}
 use Rattle.rows.specs.Fields.{Field, sequence, integer, fault, taken}
 use Rattle.rows.specs.Forms.{fieldOf}

@@ -2,8 +2,8 @@
 use mathlib.Core.List.{List, [], _∷_}
 use mathlib.Core.Option.{Option, none, some}
 use Prim.Native.Nat.{ℕ}
-use Rattle.lists.specs.Lists.{find}
-use Rattle.lists.specs.Order.{same}
+use Rattle.numbers.specs.Lists.{find}
+use Rattle.numbers.specs.Order.{same}
 use Rattle.rows.specs.declared.Table.{Table}
 use Rattle.rows.specs.declared.Table.the-variants.{Context, Mapping, Access, View}
 use Rattle.text_rows.specs.declared.Named.{Named}

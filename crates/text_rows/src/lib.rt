@@ -95,8 +95,8 @@ fn field_end(f: Form, row: &[u8], at: usize) -> usize
     ensures { λ r. ⌜ FieldIn f (now (row .entry)) at r ⌝ }
 {
     match f {
-        Form::Name(_, _) => at + 1 + big_endian::wide(row[at]),
-        Form::Subtree(_, _) => at + 1 + 4 * big_endian::wide(row[at]),
+        Form::Name(_, _) => at + 1 + numbers::wide(row[at]),
+        Form::Subtree(_, _) => at + 1 + 4 * numbers::wide(row[at]),
         Form::Large(_, _) => at + 4,
         Form::Small(_, _) => at + 1,
     }
@@ -111,12 +111,8 @@ fn put_field(out: &mut [u8], at: usize, f: Form, row: &[u8], from: usize, end: u
     match f {
         Form::Name(_, _) => text_values::put_name(out, at, &row[from + 1..end]),
         Form::Subtree(_, _) => text_values::put_dotted_quads(out, at, &row[from + 1..end]),
-        Form::Large(_, _) => text_values::put_decimal(
-            out,
-            at,
-            big_endian::quad_at(row, from) as u64,
-        ),
-        Form::Small(_, _) => text_values::put_decimal(out, at, big_endian::wide(row[from]) as u64),
+        Form::Large(_, _) => text_values::put_decimal(out, at, numbers::quad_at(row, from) as u64),
+        Form::Small(_, _) => text_values::put_decimal(out, at, numbers::wide(row[from]) as u64),
     }
 }
 

@@ -8,7 +8,7 @@ use native.Mathlib.Omega.{arith}
 use lib.Dec.{ltb}
 use lib.ListN.{length, length-append}
 use borrow.Author.Tests.{ltb-false, lt-ltb, le-ltb}
-use Rattle.lists.proofs.Bools.{split}
+use Rattle.numbers.proofs.Bools.{split}
 use Rattle.text_values.specs.Texts.{digits, decimalText, Puts}
 use Rattle.text_values.proofs.Puts.{both, kept}
 

@@ -6,8 +6,8 @@ use mathlib.Core.List.{List, [], _∷_, _++_}
 use Prim.Native.Nat.{ℕ, _+_, _≤_}
 use native.Mathlib.Omega.{arith}
 use lib.ListN.{length, take, set, length-append}
-use Rattle.lists.specs.Laid.{laid}
-use Rattle.lists.proofs.Laid.{laid-nil, laid-set, laid-laid, length-laid, take-laid}
+use Rattle.numbers.specs.Laid.{laid}
+use Rattle.numbers.proofs.Laid.{laid-nil, laid-set, laid-laid, length-laid, take-laid}
 use Rattle.text_values.specs.Texts.{Puts}
 
 pub record Onward (text : List ℕ) (at : ℕ) (w₀ rest : List ℕ) (o : ℕ) (w : List ℕ) : Type 0 where

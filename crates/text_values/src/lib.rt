@@ -120,10 +120,10 @@ pub fn put_dotted_quads(out: &mut [u8], at: usize, bytes: &[u8]) -> usize
     if bytes.len() < 4 {
         return put_octet(out, at, b'-');
     }
-    let mut o = put_decimal(out, at, big_endian::quad_at(bytes, 0) as u64);
+    let mut o = put_decimal(out, at, numbers::quad_at(bytes, 0) as u64);
     let mut k = 4;
     while 4 <= bytes.len() - k {
-        o = put_number(out, o, b'.', big_endian::quad_at(bytes, k) as u64);
+        o = put_number(out, o, b'.', numbers::quad_at(bytes, k) as u64);
         k += 4;
     }
     o

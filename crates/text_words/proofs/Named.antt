@@ -5,9 +5,9 @@ use mathlib.Core.List.{List, [], _∷_}
 use mathlib.Core.Option.{Option, none, some}
 use Prim.Native.Nat.{ℕ, suc, _≤_}
 use lib.ListN.{length, drop, drop-of-length-le}
-use Rattle.lists.specs.Lists.{first, find}
-use Rattle.lists.specs.Order.{same}
-use Rattle.lists.proofs.Bools.{split as by}
+use Rattle.numbers.specs.Lists.{first, find}
+use Rattle.numbers.specs.Order.{same}
+use Rattle.numbers.proofs.Bools.{split as by}
 use Rattle.text_words.specs.Words.{place}
 
 module _ {A : Type 0} (word : A → List ℕ) where

@@ -13,8 +13,8 @@ use lib.ListN.{length, take, drop, set, getD, length-drop, length-set, length-ap
 use lib.Seq.{length-take-le, drop-cons, drop-drop, take-suc-set, take-length, append-snoc}
 use borrow.Author.Tests.{eq-eqb, ne-eqb, lt-ltb, le-ltb, ltb-true, ltb-false}
 use Rattle.bytes.specs.Bytes.{slice, indexAfter, indexOf}
-use Rattle.lists.specs.Order.{same}
-use Rattle.lists.proofs.Bools.{split as by, clash, and-false-right}
+use Rattle.numbers.specs.Order.{same}
+use Rattle.numbers.proofs.Bools.{split as by, clash, and-false-right}
 use Rattle.rows.specs.Fields.{within}
 use Rattle.rows.proofs.Sound.{within-most}
 use Rattle.rows.proofs.Steps.{within-low, within-high, within-yes}

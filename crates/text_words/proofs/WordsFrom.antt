@@ -7,8 +7,8 @@ use native.Mathlib.Omega.{arith}
 use lib.Dec.{ltb, leb}
 use lib.ListN.{length, drop, length-take, length-drop}
 use borrow.Author.Tests.{le-leb, lt-leb, leb-true, leb-false, ltb-true, ltb-false}
-use Rattle.lists.specs.Order.{same}
-use Rattle.lists.proofs.Bools.{split as by}
+use Rattle.numbers.specs.Order.{same}
+use Rattle.numbers.proofs.Bools.{split as by}
 use Rattle.text_words.specs.Words.{between, split, run, words, wordsFrom, wordAt, place, Ends}
 use Rattle.text_words.proofs.Words.{run-most, part-last, part-next, split-some}
 use Rattle.text_words.specs.declared.Word.the-variants.{To, Missing}

@@ -7,7 +7,7 @@ use mathlib.Core.Option.{Option, none, some, Option·map}
 use Prim.Native.Nat.{ℕ, suc, _+_, _-_, _*_, _≤_}
 use lib.Dec.{eqb, ltb, leb}
 use lib.ListN.{length, take, drop}
-use Rattle.lists.specs.Order.{same}
+use Rattle.numbers.specs.Order.{same}
 use Rattle.rows.specs.Fields.{within}
 use Rattle.text_words.specs.declared.Word.{Word}
 use Rattle.text_words.specs.declared.Word.the-variants.{To, Missing}

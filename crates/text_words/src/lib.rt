@@ -2,7 +2,7 @@
 ghost use mathlib.Core.Path.{_≡_};
 ghost use Prim.Native.Nat.{_+_, _≤_};
 ghost use lib.ListN.{length};
-ghost use Rattle.lists.specs.Order.{same};
+ghost use Rattle.numbers.specs.Order.{same};
 ghost use Rattle.text_words.specs.Words.{Ends, words, wordAt, place, dash, hexDigit, hexPair, hexOctets, numberOf, Fills, decimal as Words·decimal};
 ghost use Rattle.text_words.specs.Words.{dotted as Words·dotted};
 
@@ -72,7 +72,7 @@ pub fn decimal(word: &[u8]) -> Number
     let mut n: usize = 0;
     let mut i = 0;
     while i < word.len() {
-        let c = big_endian::wide(word[i]);
+        let c = numbers::wide(word[i]);
         if c < 48 {
             return Number::Bad;
         }

@@ -4,7 +4,7 @@ use mathlib.Core.List.{List}
 use mathlib.Core.Option.{none, some, Option·none-ne-some}
 use Prim.Native.Nat.{ℕ}
 use lib.ListN.{length}
-use Rattle.lists.proofs.Bools.{split as by, cond-false}
+use Rattle.numbers.proofs.Bools.{split as by, cond-false}
 use Rattle.rows.specs.Tables.{Tables}
 use Rattle.image.specs.Store.{room, isSound, held}
 use Rattle.table_update.proofs.Stores.{store-sound}

@@ -2,7 +2,7 @@
 use mathlib.Core.Path.{refl}
 use Prim.Native.Nat.{_-_}
 use lib.ListN.{take}
-use Rattle.big_endian.specs.BigEndian.{Octets}
+use Rattle.numbers.specs.BigEndian.{Octets}
 use Rattle.text_values.specs.Texts.{hexText}
 use Rattle.call_answers.specs.Answers.{imageText}
 use Rattle.call_answers.proofs.Shown.{second-fits, both-shown}

@@ -5,7 +5,7 @@ use Prim.Native.Nat.{_+_, _≤_, _<_}
 use native.Mathlib.Omega.{arith}
 use lib.ListN.{length, take}
 use borrow.Author.Needs.{needs}
-use Rattle.lists.proofs.Bools.{not-true, not-false}
+use Rattle.numbers.proofs.Bools.{not-true, not-false}
 use Rattle.text_words.specs.Words.{longest, wordsFrom}
 use Rattle.text_words.proofs.WordsFrom.{WordAt, word-from}
 use Rattle.line_fields.specs.Kinds.{valuesSaid}

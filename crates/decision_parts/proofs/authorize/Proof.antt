@@ -4,7 +4,7 @@ use mathlib.Core.List.{map}
 use mathlib.Core.Option.{Option}
 use native.Mathlib.Omega.{arith}
 use borrow.Author.Needs.{needs}
-use Rattle.lists.specs.Lists.{find}
+use Rattle.numbers.specs.Lists.{find}
 use Rattle.rows.specs.declared.Table.the-variants.{Context, Mapping, Access}
 use Rattle.rows.specs.Rows.{ContextRow, MappingRow, contextOf, mappingOf, accessOf}
 use Rattle.image_layout.specs.Layout.{rowsIn}

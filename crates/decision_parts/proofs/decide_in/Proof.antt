@@ -5,7 +5,7 @@ use mathlib.Core.Option.{Option}
 use native.Mathlib.Omega.{arith}
 use borrow.Author.Needs.{needs}
 use Rattle.answers.specs.declared.Cause.the-variants.{NotInView}
-use Rattle.lists.proofs.Bools.{cond-true, cond-false}
+use Rattle.numbers.proofs.Bools.{cond-true, cond-false}
 use Rattle.rows.specs.declared.Table.the-variants.{View}
 use Rattle.rows.specs.Rows.{ViewRow, viewOf}
 use Rattle.decision_steps.specs.Decision.{chosenView, orRefused, byType}

@@ -5,7 +5,7 @@ use Prim.Native.Nat.{_-_}
 use native.Mathlib.Omega.{arith}
 use lib.ListN.{length, take}
 use borrow.Author.Needs.{needs}
-use Rattle.lists.specs.Order.{same}
+use Rattle.numbers.specs.Order.{same}
 use Rattle.decision_steps.specs.Bytes.{nameAt}
 use Rattle.decision_steps.proofs.Layouts.{length-name}
 use Rattle.decision_steps.proofs.Steps.{fits-exact, fits-longer, fits-front}

@@ -3,7 +3,7 @@
 use mathlib.Core.Path.{ap, _∙_}
 use Prim.Native.Nat.{_+_}
 use borrow.Author.Needs.{needs}
-use Rattle.lists.specs.Order.{same}
+use Rattle.numbers.specs.Order.{same}
 use Rattle.decision_steps.proofs.Layouts.{name-part}
 use Rattle.decision_steps.proofs.is_name.Statement.{statement}
 use Rattle.decision_steps.proofs.is_name.Tie as tie

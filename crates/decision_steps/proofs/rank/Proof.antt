@@ -8,7 +8,7 @@ use native.Mathlib.Omega.{arith}
 use lib.ListN.{length, getD}
 use borrow.Author.Tests.{not-true, not-false}
 use borrow.Author.Needs.{needs}
-use Rattle.lists.specs.Order.{same}
+use Rattle.numbers.specs.Order.{same}
 use Rattle.decision_steps.specs.Decision.{isActive, contextFits}
 use Rattle.decision_steps.specs.Bytes.{nameAt, rankOf}
 use Rattle.decision_steps.proofs.Layouts.{past, length-name, AccessFrom, access-from}

@@ -5,7 +5,7 @@ use Prim.Native.Nat.{ℕ, _+_, _-_, _*_}
 use native.Mathlib.Omega.{arith}
 use borrow.Author.Tests.{not-true, not-false}
 use borrow.Author.Needs.{needs}
-use Rattle.lists.proofs.Bools.{and-false-right}
+use Rattle.numbers.proofs.Bools.{and-false-right}
 use Rattle.rows.specs.Rows.{viewOf}
 use Rattle.decision_steps.specs.Decision.{inView, agrees, matches}
 use Rattle.decision_steps.specs.Bytes.{identifier}

@@ -8,7 +8,7 @@ use native.Mathlib.Omega.{arith}
 use borrow.Author.Needs.{needs}
 use Rattle.answers.specs.declared.Fault.{Fault}
 use Rattle.rows.specs.Rows.{limit}
-use Rattle.big_endian.specs.BigEndian.{Octets}
+use Rattle.numbers.specs.BigEndian.{Octets}
 use Rattle.image_layout.specs.Layout.{layoutOf, extentOf}
 use Rattle.table_update.specs.Exchange.{Sought}
 use Rattle.table_update.proofs.Stores.{rowKey}

@@ -3,7 +3,7 @@
 use mathlib.Core.Path.{_≡_, refl, sym, _∙_}
 use mathlib.Core.Bool.{true}
 use borrow.Author.Needs.{needs}
-use Rattle.lists.proofs.Bools.{clash}
+use Rattle.numbers.proofs.Bools.{clash}
 use Rattle.rows.specs.Fields.{span}
 use Rattle.rows.specs.Rows.{keyFields}
 use Rattle.image_layout.specs.Layout.{layoutOf}

@@ -9,8 +9,8 @@ use native.Mathlib.Omega.{arith}
 use lib.ListN.{length, drop}
 use borrow.Author.Needs.{needs}
 use borrow.Author.Tests.{not-true, not-false}
-use Rattle.big_endian.specs.BigEndian.{Octets}
-use Rattle.big_endian.proofs.BigEndian.{octets-drop}
+use Rattle.numbers.specs.BigEndian.{Octets}
+use Rattle.numbers.proofs.BigEndian.{octets-drop}
 use Rattle.image_layout.specs.Layout.{pairs, total, header, imageLength, withinLimits, mostRows, mostPair}
 use Rattle.image_layout.proofs.Walks.{total-most}
 use Rattle.image_layout.proofs.Limits.{few}

@@ -6,7 +6,7 @@ use native.Mathlib.Omega.{arith}
 use lib.ListN.{length, take, drop, getD}
 use lib.Seq.{length-take-le, getD-take}
 use borrow.Author.Tests.{eq-eqb, ne-eqb}
-use Rattle.lists.specs.Order.{begins}
+use Rattle.numbers.specs.Order.{begins}
 use Rattle.instance_decode.proofs.Begins.{begins-next, begins-end, begins-short}
 use borrow.Author.Needs.{needs}
 use Rattle.instance_decode.proofs.begins_with.Statement.{statement}

@@ -7,7 +7,7 @@ use native.Mathlib.Omega.{arith}
 use lib.ListN.{length}
 use borrow.Author.Tests.{ltb-true, ltb-false}
 use borrow.Author.Needs.{needs}
-use Rattle.lists.proofs.Bools.{not-true, not-false}
+use Rattle.numbers.proofs.Bools.{not-true, not-false}
 use Rattle.reader.proofs.Parts.{PartRead, part-read, no-part}
 use Rattle.instance_decode.specs.Decoding.{tableOf}
 use Rattle.instance_decode.proofs.Answers.{found-in, found-nowhere, no-table, no-column, column-unlisted, column-listed}

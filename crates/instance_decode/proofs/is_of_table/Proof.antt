@@ -2,7 +2,7 @@
 use mathlib.Core.Path.{_≡_, ap, _∙_}
 use native.Mathlib.Omega.{arith}
 use lib.ListN.{length}
-use Rattle.lists.specs.Order.{begins}
+use Rattle.numbers.specs.Order.{begins}
 use Rattle.instance_encode.specs.Instances.{longestBase}
 use Rattle.instance_encode.proofs.Bases.{base-padded, base-taken}
 use borrow.Author.Needs.{needs}

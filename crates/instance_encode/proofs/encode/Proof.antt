@@ -7,7 +7,7 @@ use Prim.Native.Nat.{_+_, _-_, _*_, _≤_}
 use native.Mathlib.Nat.{zero-add}
 use native.Mathlib.Omega.{arith}
 use lib.ListN.{length}
-use Rattle.lists.proofs.Bools.{not-true, not-false}
+use Rattle.numbers.proofs.Bools.{not-true, not-false}
 use Rattle.rows.proofs.Walks.{reached-at, reached-bad}
 use Rattle.rows.specs.Rows.{keyFields, indexOf}
 use Rattle.rows.specs.Fields.{faults, span}

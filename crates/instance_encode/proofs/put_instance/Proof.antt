@@ -5,7 +5,7 @@ use Prim.Native.Nat.{_+_, _-_}
 use native.Mathlib.Nat.{sub-zero}
 use native.Mathlib.Omega.{arith}
 use lib.ListN.{length, length-set}
-use Rattle.lists.specs.Laid.{laid}
+use Rattle.numbers.specs.Laid.{laid}
 use Rattle.instance_encode.specs.Instances.{base}
 use Rattle.instance_encode.specs.Runs.{runs}
 use Rattle.instance_encode.proofs.Answers.{instance-laid}

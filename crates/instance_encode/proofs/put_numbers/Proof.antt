@@ -5,8 +5,8 @@ use Prim.Native.Nat.{_+_, _-_, _*_}
 use native.Mathlib.Omega.{arith}
 use lib.ListN.{length, drop}
 use lib.Seq.{drop-drop}
-use Rattle.big_endian.specs.BigEndian.{quad, number, numbers}
-use Rattle.big_endian.proofs.BigEndian.{length-numbers, getD-numbers}
+use Rattle.numbers.specs.BigEndian.{quad, number, numbers}
+use Rattle.numbers.proofs.BigEndian.{length-numbers, getD-numbers}
 use Rattle.instance_encode.proofs.Filled.{FilledFrom, from-start, from-next, from-end}
 use borrow.Author.Needs.{needs}
 use Rattle.instance_encode.proofs.put_numbers.Statement.{statement}

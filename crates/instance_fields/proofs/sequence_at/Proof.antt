@@ -5,7 +5,7 @@ use Prim.Native.Nat.{_+_, _*_, _≤_}
 use native.Mathlib.Nat.{mul-le-mul-right}
 use native.Mathlib.Omega.{arith}
 use lib.ListN.{length, length-set}
-use Rattle.big_endian.specs.BigEndian.{size}
+use Rattle.numbers.specs.BigEndian.{size}
 use Rattle.instance_fields.specs.Reading.{countAt, widthOf}
 use Rattle.instance_fields.specs.declared.Part.the-variants.{Of}
 use Rattle.instance_fields.proofs.Takes.{sequence-bad, sequence-read}

@@ -1,8 +1,8 @@
--- `instance_fields::write_number` meets its contract: in each arm the width is known. One byte is stored, four are put by `big_endian`.
+-- `instance_fields::write_number` meets its contract: in each arm the width is known. One byte is stored, four are put by `numbers`.
 -- Assumes nothing.
 use mathlib.Core.Path.{refl}
 use native.Mathlib.Omega.{arith}
-use Rattle.lists.proofs.Laid.{laid-set}
+use Rattle.numbers.proofs.Laid.{laid-set}
 use borrow.Author.Needs.{needs}
 use Rattle.instance_fields.proofs.write_number.Statement.{statement}
 use Rattle.instance_fields.proofs.write_number.Tie as tie

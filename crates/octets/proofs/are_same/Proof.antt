@@ -6,7 +6,7 @@ use Prim.Native.Nat.{_≤_, _-_}
 use native.Mathlib.Omega.{arith}
 use lib.ListN.{length, take}
 use borrow.Author.Needs.{needs}
-use Rattle.lists.proofs.Orders.{same-eq, same-ne}
+use Rattle.numbers.proofs.Orders.{same-eq, same-ne}
 use Rattle.octets.proofs.Sames.{take-next, take-whole}
 use Rattle.octets.proofs.are_same.Statement.{statement}
 use Rattle.octets.proofs.are_same.Tie as tie

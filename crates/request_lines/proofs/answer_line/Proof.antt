@@ -9,7 +9,7 @@ use Rattle.text_words.specs.Words.{longest, wordsFrom}
 use Rattle.line_fields.specs.Kinds.{valuesSaid}
 use Rattle.line_fields.specs.Requests.{requestKinds}
 use Rattle.line_fields.specs.Slots.{ReadsFields, Whole}
-use Rattle.lists.proofs.Bools.{not-true, not-false}
+use Rattle.numbers.proofs.Bools.{not-true, not-false}
 use Rattle.line_fields.proofs.RequestSlots.{kinds-fit, whole-fit}
 use Rattle.request_lines.proofs.Answers.{answer-long, answer-malformed, answer-said}
 use Rattle.request_lines.proofs.answer_line.Statement.{statement}

@@ -4,7 +4,7 @@ use mathlib.Core.Path.{sym, _∙_}
 use native.Mathlib.Omega.{arith}
 use borrow.Author.Needs.{needs}
 use borrow.Author.Tests.{not-true, not-false}
-use Rattle.big_endian.specs.BigEndian.{quad}
+use Rattle.numbers.specs.BigEndian.{quad}
 use Rattle.rows.proofs.Steps.{integer-short, integer-out, integer-whole}
 use Rattle.rows.proofs.large.Statement.{statement}
 use Rattle.rows.proofs.large.Tie as tie

@@ -2,7 +2,7 @@
 -- Assumes nothing.
 use mathlib.Core.Path.{refl}
 use borrow.Author.Needs.{needs}
-use Rattle.lists.proofs.Bools.{clash}
+use Rattle.numbers.proofs.Bools.{clash}
 use Rattle.rows_quick.proofs.Legal.{joined, access-rest-legal}
 use Rattle.rows_quick.proofs.access_rest_fits.Statement.{statement}
 use Rattle.rows_quick.proofs.access_rest_fits.Tie as tie

@@ -8,7 +8,7 @@ use native.Mathlib.Omega.{arith}
 use lib.Dec.{ltb}
 use lib.ListN.{length, length-take}
 use borrow.Author.Needs.{needs}
-use Rattle.big_endian.specs.BigEndian.{Octets}
+use Rattle.numbers.specs.BigEndian.{Octets}
 use Rattle.image_layout.specs.Layout.{countsSize, mostRows}
 use Rattle.table_update.specs.Exchange.{oneIf, TablePlace}
 use Rattle.table_update.proofs.Swaps.{Swap}

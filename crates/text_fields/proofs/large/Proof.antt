@@ -4,8 +4,8 @@ use Prim.Native.Nat.{_+_}
 use native.Mathlib.Omega.{arith}
 use lib.ListN.{take}
 use borrow.Author.Needs.{needs}
-use Rattle.big_endian.specs.BigEndian.{quad, bytes}
-use Rattle.lists.proofs.Laid.{take-laid}
+use Rattle.numbers.specs.BigEndian.{quad, bytes}
+use Rattle.numbers.proofs.Laid.{take-laid}
 use Rattle.text_words.proofs.Words.{number-is, number-bad, unsaid, fills-said}
 use Rattle.text_fields.proofs.FieldWords.{numbered-none, numbered-some, decimal-below}
 use Rattle.text_fields.proofs.large.Statement.{statement}

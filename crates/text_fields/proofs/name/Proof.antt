@@ -5,7 +5,7 @@ use Prim.Native.Nat.{_+_, _-_, _<_}
 use native.Mathlib.Omega.{arith}
 use lib.ListN.{length, length-set}
 use borrow.Author.Needs.{needs}
-use Rattle.big_endian.specs.BigEndian.{octet, bytesOf}
+use Rattle.numbers.specs.BigEndian.{octet, bytesOf}
 use Rattle.text_words.specs.Words.{hexOctets}
 use Rattle.text_words.proofs.Words.{Filling, filled-upto, filled-short, filled-not, unsaid, fills-said}
 use Rattle.text_fields.proofs.Buffers.{head-put, bytesOf-octet}

@@ -6,7 +6,7 @@ use native.Mathlib.Numerals.{add-one}
 use lib.ListN.{length, length-set}
 use lib.Seq.{take-suc-set}
 use borrow.Author.Needs.{needs}
-use Rattle.big_endian.specs.BigEndian.{octet, bytes}
+use Rattle.numbers.specs.BigEndian.{octet, bytes}
 use Rattle.text_words.proofs.Words.{number-is, number-bad, unsaid, fills-said}
 use Rattle.text_fields.proofs.FieldWords.{numbered-none, numbered-over, numbered-some}
 use Rattle.text_fields.proofs.small.Statement.{statement}

@@ -9,8 +9,8 @@ use lib.ListN.{length, take, length-set}
 use lib.Seq.{take-all}
 use borrow.Rule.Slice.PartMut.{same-len-mid}
 use borrow.Author.Needs.{needs}
-use Rattle.big_endian.specs.BigEndian.{bytesOf, quad}
-use Rattle.big_endian.proofs.BigEndian.{length-bytesOf}
+use Rattle.numbers.specs.BigEndian.{bytesOf, quad}
+use Rattle.numbers.proofs.BigEndian.{length-bytesOf}
 use Rattle.text_words.specs.Words.{dotted}
 use Rattle.text_words.proofs.Words.{Whole, filled-whole, filled-short, filled-not, unsaid, fills-said}
 use Rattle.text_fields.proofs.Buffers.{back, back-front, head-put}

@@ -4,7 +4,7 @@ use mathlib.Core.Path.{_≡_}
 use native.Mathlib.Omega.{arith}
 use lib.ListN.{drop}
 use borrow.Author.Needs.{needs}
-use Rattle.big_endian.specs.BigEndian.{octet, quad}
+use Rattle.numbers.specs.BigEndian.{octet, quad}
 use Rattle.rows.specs.Fields.{sequence, integer, fault}
 use Rattle.text_rows.proofs.FieldText.{name-count, name-in, subtree-count, subtree-in, large-in, small-in}
 use Rattle.text_rows.proofs.field_end.Statement.{statement}

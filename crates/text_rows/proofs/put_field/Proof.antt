@@ -3,7 +3,7 @@
 use mathlib.Core.Path.{_≡_, sym, ap, _∙_}
 use native.Mathlib.Omega.{arith}
 use borrow.Author.Needs.{needs}
-use Rattle.big_endian.proofs.BigEndian.{getD-front}
+use Rattle.numbers.proofs.BigEndian.{getD-front}
 use Rattle.rows.specs.declared.Form.the-variants.{Name, Subtree, Large, Small}
 use Rattle.text_rows.specs.FieldText.{FieldIn}
 use Rattle.text_rows.proofs.FieldText.{name-start, name-part, subtree-start, subtree-part}

@@ -6,7 +6,7 @@ use Prim.Native.Nat.{_+_, _-_, _≤_}
 use native.Mathlib.Omega.{arith}
 use lib.ListN.{length, drop, length-drop}
 use borrow.Author.Needs.{needs}
-use Rattle.big_endian.specs.BigEndian.{quad, number}
+use Rattle.numbers.specs.BigEndian.{quad, number}
 use Rattle.decision_steps.specs.Bytes.{identifier}
 use Rattle.decision_steps.proofs.Identifiers.{identifier-none, identifier-next}
 use Rattle.text_values.specs.Texts.{dotsText}

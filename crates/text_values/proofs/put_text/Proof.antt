@@ -1,5 +1,5 @@
 -- `text_values::put_text` meets its contract: a copy of the whole text. Assumes nothing.
-use Rattle.lists.proofs.Laid.{laid-paste}
+use Rattle.numbers.proofs.Laid.{laid-paste}
 use mathlib.Core.Path.{refl, _∙_}
 use borrow.Author.Needs.{needs}
 use Rattle.text_values.proofs.put_text.Statement.{statement}

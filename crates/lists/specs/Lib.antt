@@ -1,4 +1,0 @@
-pub mod Lists
-pub mod Order
-pub mod Scans
-pub mod Laid

@@ -1,1 +1,0 @@
-// Lists by tests that compute: the definitions are in specs/, their laws in proofs/. There is no code.
