@@ -49,9 +49,10 @@ loop-holds c =
     (omega arith, refl, rw (sub-zero (s .n)) (way-start (replicate (s .n) f) (s .index .now) (s .key .now) (s .at) (s .byte) h))
 
 integer-at-requires : tie.Need-integer-at-requires Inv-loop μ-loop
-integer-at-requires c κs =
-    (omega (arith, way (c .before) .room),
-    rw (c .before .before .before .largest-in .ensures) (largest-fits (widthOf (c .before .before .before .before .before .before .args .w))))
+integer-at-requires c κs = (
+  omega (arith, way (c .before) .room),
+  rw (c .before .before .before .largest-in .ensures) (largest-fits (widthOf (c .before .before .before .before .before .before .args .w))),
+)
 
 same-length : tie.Need-same-length Inv-loop μ-loop
 same-length c = c .before .before .before .before .integer-at .kept .1 .1 .1 .1 .1 .0 ∙ c .before .before .before .before .before .before .before .loop .inv .1
@@ -62,10 +63,11 @@ returns c = let r = c .before .before .before .before in way-stop (way (r .befor
 loop-again : tie.Need-loop-again Inv-loop μ-loop
 loop-again c =
     let r = c .before .before .before .before .before in
-    let t = r .before .before in
-    (omega (arith, t .loop-test .taken),
-    r .integer-at .kept .1 .1 .1 .1 .1 .0 ∙ t .before .loop .inv .1,
-    way-next (way t) _ (said r) (c .before .read .given .1))
+    let t = r .before .before in (
+      omega (arith, t .loop-test .taken),
+      r .integer-at .kept .1 .1 .1 .1 .1 .0 ∙ t .before .loop .inv .1,
+      way-next (way t) _ (said r) (c .before .read .given .1),
+    )
 
 same-length-2 : tie.Need-same-length-2 Inv-loop μ-loop
 same-length-2 c = c .before .loop .inv .1
