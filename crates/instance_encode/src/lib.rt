@@ -54,7 +54,8 @@ pub fn base_of(t: Table) -> [u8; BASE_ROOM]
 
 // How many parts the base has.
 pub fn base_len(t: Table) -> usize
-    ensures { λ r. ⌜ (r ≡ length (base t)) × (r ≤ longestBase) ⌝ }
+    ensures parts { λ r. ⌜ r ≡ length (base t) ⌝ }
+    ensures most { λ r. ⌜ r ≤ longestBase ⌝ }
 {
     match t {
         Table::Context => 10,
@@ -68,7 +69,8 @@ pub fn base_len(t: Table) -> usize
 
 // A part for each of `n` bytes from `from` on, laid from `at` on.
 fn put_octets(out: &mut [u32], at: usize, bytes: &[u8], from: usize, n: usize)
-    requires { ⌜ (at + n ≤ length (now out)) × (from + n ≤ length (now bytes)) ⌝ }
+    requires room { ⌜ at + n ≤ length (now out) ⌝ }
+    requires inside { ⌜ from + n ≤ length (now bytes) ⌝ }
     ensures { λ _. ⌜ now (out .exit) ≡ laid at (take n (drop from (now (bytes .entry)))) (now (out .entry)) ⌝ }
 {
     let mut i = 0;
@@ -80,7 +82,8 @@ fn put_octets(out: &mut [u32], at: usize, bytes: &[u8], from: usize, n: usize)
 
 // A part for each of `n` numbers of four bytes.
 fn put_numbers(out: &mut [u32], at: usize, bytes: &[u8], from: usize, n: usize)
-    requires { ⌜ (at + n ≤ length (now out)) × (from + 4 * n ≤ length (now bytes)) ⌝ }
+    requires room { ⌜ at + n ≤ length (now out) ⌝ }
+    requires inside { ⌜ from + 4 * n ≤ length (now bytes) ⌝ }
     ensures { λ _. ⌜ now (out .exit) ≡ laid at (numbers quad n (drop from (now (bytes .entry)))) (now (out .entry)) ⌝ }
 {
     let mut i = 0;
@@ -101,7 +104,8 @@ struct Quads {
 // Where they lie by table. In the key's index each of them is a part, and so is every other byte.
 fn quads_of(t: Table, key: &[u8]) -> Quads
     requires { ⌜ faults (keyFields t) (now key) ≡ none ⌝ }
-    ensures { λ r. ⌜ (r .from ≡ quadsFrom t (now (key .entry))) × (r .count ≡ quadsIn t (now (key .entry))) ⌝ }
+    ensures place { λ r. ⌜ r .from ≡ quadsFrom t (now (key .entry)) ⌝ }
+    ensures number { λ r. ⌜ r .count ≡ quadsIn t (now (key .entry)) ⌝ }
 {
     match t {
         Table::Context => Quads { from: 0, count: 0 },
@@ -122,7 +126,8 @@ fn quads_of(t: Table, key: &[u8]) -> Quads
 
 // The index in its three runs: the bytes before these numbers, the numbers, the bytes behind them.
 fn put_runs(out: &mut [u32], at: usize, key: &[u8], from: usize, quads: usize)
-    requires { ⌜ (from + 4 * quads ≤ length (now key)) × (at + length (now key) ≤ length (now out) + 3 * quads) ⌝ }
+    requires inside { ⌜ from + 4 * quads ≤ length (now key) ⌝ }
+    requires room { ⌜ at + length (now key) ≤ length (now out) + 3 * quads ⌝ }
     ensures { λ _. ⌜ now (out .exit) ≡ laid at (runs from quads (now (key .entry))) (now (out .entry)) ⌝ }
 {
     let end = from + 4 * quads;
@@ -135,7 +140,8 @@ fn put_runs(out: &mut [u32], at: usize, key: &[u8], from: usize, quads: usize)
 
 // Base, column and the index in its runs, at the front of `out`.
 fn put_instance(t: Table, column: u32, key: &[u8], from: usize, quads: usize, out: &mut [u32])
-    requires { ⌜ (from + 4 * quads ≤ length (now key)) × (length (base t) + 1 + length (now key) ≤ length (now out) + 3 * quads) ⌝ }
+    requires inside { ⌜ from + 4 * quads ≤ length (now key) ⌝ }
+    requires room { ⌜ length (base t) + 1 + length (now key) ≤ length (now out) + 3 * quads ⌝ }
     ensures { λ _. ⌜ now (out .exit) ≡ laid 0 (instance t column (runs from quads (now (key .entry)))) (now (out .entry)) ⌝ }
 {
     let n = base_len(t);
