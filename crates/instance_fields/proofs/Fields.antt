@@ -11,8 +11,8 @@ use native.Mathlib.Omega.{arith}
 use lib.ListN.{length, take, drop, getD, replicate, length-drop, drop-of-length-le}
 use lib.Seq.{drop-cons, drop-drop, length-take-le}
 use lib.Dec.{leb, ltb}
-use borrow.Author.Tests.{ltb-true, ltb-false, leb-true, leb-false, lt-ltb, le-leb, lt-leb}
-use Rattle.numbers.proofs.Bools.{split, and-left, and-right, cond-same}
+use borrow.Author.Tests.{ltb-true, ltb-false, leb-true, lt-ltb, le-leb, lt-leb}
+use Rattle.numbers.proofs.Bools.{split, and-left, and-right}
 use Rattle.rows.proofs.Sound.{within-least, within-most}
 use Rattle.rows.proofs.Steps.{within-yes}
 use Rattle.rows.proofs.Bounds.{longest}

@@ -8,17 +8,14 @@ use Prim.Native.Nat.{ℕ, suc, _+_, _≤_, _<_}
 use native.Mathlib.Nat.{add-zero}
 use native.Mathlib.Numerals.{add-one}
 use native.Mathlib.Omega.{arith}
-use lib.ListN.{length, take, drop, getD, length-append}
+use lib.ListN.{length, drop, getD, length-append}
 use lib.Seq.{drop-cons, getD-take}
 use Rattle.numbers.specs.BigEndian.{octet}
 use Rattle.rows.proofs.Forms.{key-first}
 use Rattle.rows.specs.declared.Table.{Table}
-use Rattle.rows.specs.declared.Table.the-variants.{Context, Mapping, Access, View}
-use Rattle.rows.specs.declared.Form.{Form}
-use Rattle.rows.specs.declared.Form.the-variants.{Name, Subtree, Large, Small}
 use Rattle.rows.specs.Fields.{Field, integer, fieldBytes, rowBytes}
-use Rattle.rows.specs.Forms.{fieldOf, roomOf, fieldIn}
-use Rattle.rows.specs.Rows.{keyFields, rowFields, keyMax}
+use Rattle.rows.specs.Forms.{fieldIn}
+use Rattle.rows.specs.Rows.{keyFields, rowFields}
 use Rattle.rows.proofs.Bounds.{longestField, longest}
 use Rattle.instance_fields.specs.declared.Read.{Read}
 use Rattle.instance_fields.specs.declared.Read.the-variants.{Next, Bad}

@@ -7,7 +7,6 @@ use Prim.Native.Nat.{ℕ, _+_, _-_}
 use native.Mathlib.Omega.{arith}
 use lib.Dec.{ltb}
 use lib.ListN.{length, getD}
-use Rattle.reader.specs.declared.Part.{Part}
 use Rattle.reader.specs.declared.Part.the-variants.{Of, End}
 use Rattle.reader.specs.declared.Read.{Read}
 use Rattle.reader.specs.Reading.{partAt, behind, readFrom}

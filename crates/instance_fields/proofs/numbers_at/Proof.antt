@@ -1,8 +1,8 @@
 -- `instance_fields::numbers_at` meets its contract. The loop's invariant: read from here on, the numbers left make all of them read from the start on,
 -- and there is room for them (`Way`). The measure is how many numbers are left. Assumes nothing.
-use mathlib.Core.List.{[], _∷_}
+use mathlib.Core.List.{_∷_}
 use mathlib.Core.Path.{_≡_, refl, _∙_}
-use Prim.Native.Nat.{suc, _+_, _-_, _≤_, _<_}
+use Prim.Native.Nat.{suc, _+_, _-_, _≤_}
 use native.Mathlib.Nat.{sub-zero}
 use native.Mathlib.Omega.{arith}
 use lib.ListN.{length, replicate}
