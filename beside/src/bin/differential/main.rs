@@ -82,7 +82,8 @@ fn program_part(tally: &mut Tally, settings: &Settings, name: &'static str) -> R
                     ("image", &["image"]),
                     ("malformed line", &["7"]),
                     ("line over 2,048 bytes", &["7"]),
-                    ("pairs of lists of demand 3", &["alike"]),
+                    ("pairs of lists of demand 3, from fresh stores", &["alike"]),
+                    ("pairs of lists of demand 3, from stores whose circles agree", &["alike"]),
                 ],
             );
         }
