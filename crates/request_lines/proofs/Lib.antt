@@ -1,6 +1,4 @@
 pub mod Answers
 pub mod Told
-pub mod Lines
-pub mod Steps
+pub mod Reports
 pub mod Images
-pub mod Runs

@@ -1,20 +1,14 @@
 -- What is told of a line, put part by part: number, space, answer and newline. A number has at most 20 digits, so that all of it fits where the room
--- for it is left; what stands in front of the place stays, and the text stands behind it. Assumes nothing.
-use mathlib.Core.Path.{_≡_, _∙_}
+-- for it is left. Assumes nothing.
+use mathlib.Core.Path.{_≡_, ap, _∙_}
 use mathlib.Core.List.{List, [], _∷_, _++_}
-use Prim.Native.Nat.{ℕ, _+_, _≤_}
+use Prim.Native.Nat.{ℕ, _+_, _-_, _≤_}
 use native.Mathlib.Omega.{arith}
 use lib.ListN.{length, take, length-append}
-use Rattle.numbers.proofs.Laid.{take-laid}
 use Rattle.text_values.specs.Texts.{decimalText, Puts}
-use Rattle.numbers.specs.Laid.{laid}
 use Rattle.text_values.proofs.Digits.{length-decimal}
-use Rattle.text_values.proofs.Puts.{Onward, start, step, last}
-use Rattle.request_lines.specs.Lines.{mostTold, told}
-
--- the text put at `at`
-pub puts-front : {b : List ℕ} {at r : ℕ} {w after : List ℕ} → at + length b ≤ length w → Puts b at w after r → take r after ≡ take at w ++ b
-puts-front {b} {at} {r} {w} h p = rw (p .lays, p .ends) (take-laid at b w h)
+use Rattle.text_values.proofs.Puts.{Onward, start, step, last, front}
+use Rattle.request_lines.specs.Report.{mostTold, told}
 
 module _ (number answer : ℕ) where
   -- what is left behind the number, the space and the answer
@@ -55,7 +49,14 @@ module _ (number answer : ℕ) where
           pub going3 : Onward (told number answer) at out left3 c w₃
           going3 = step (decimalText answer) left3 going2 r
 
-          pub told-put : {d : ℕ} {w₄ : List ℕ} → Puts (10 ∷ []) c w₃ w₄ d → (take d w₄ ≡ take at out ++ told number answer) × (d ≤ at + mostTold)
+          pub told-put : {d : ℕ} {w₄ : List ℕ} → Puts (10 ∷ []) c w₃ w₄ d → Puts (told number answer) at out w₄ d × (d ≤ at + mostTold)
           told-put s =
               let l = last left3 going3 s in
-              (puts-front (omega (arith, told-most)) l, omega (arith, l .ends, told-most))
+              (l, omega (arith, l .ends, told-most))
+
+-- what is told at the front of a buffer
+pub told-front : (number answer : ℕ) {out out' : List ℕ} {r : ℕ} → mostTold ≤ length out → Puts (told number answer) 0 out out' r
+    → take (r - 0) out' ≡ told number answer
+told-front number answer {out} {out'} {r} h p =
+    let z : r - 0 ≡ r = omega arith in
+    ap (λ n. take n out') z ∙ front (omega (arith, told-most number answer)) p

@@ -16,7 +16,8 @@ use Rattle.text_values.specs.Texts.{digits, decimalText}
 use Rattle.line_fields.specs.Kinds.{kindSaid, valuesSaid}
 use Rattle.line_fields.specs.Requests.{request}
 use Rattle.request_lines.specs.Answers.{lineAnswer}
-use Rattle.request_lines.specs.Lines.{linesOf, told, report, written}
+use Rattle.program_io.specs.Lines.{linesOf}
+use Rattle.request_lines.specs.Report.{told, report, written}
 
 -- one empty context
 abbrev pub p12 : List ℕ

@@ -1,4 +1,3 @@
 pub mod Answers
-pub mod Lines
-pub mod Runs
+pub mod Report
 pub mod Examples

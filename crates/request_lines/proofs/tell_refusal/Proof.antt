@@ -2,14 +2,14 @@
 use mathlib.Core.Path.{ap, _∙_}
 use native.Mathlib.Omega.{arith}
 use borrow.Author.Needs.{needs}
-use Rattle.request_lines.specs.Lines.{told}
+use Rattle.request_lines.specs.Report.{told}
 use Rattle.request_lines.proofs.tell_refusal.Statement.{statement}
 use Rattle.request_lines.proofs.tell_refusal.Tie as tie
 
 returns : tie.Need-returns
 returns c =
     let t = c .before .before in
-    (t .tell .ensures .0 ∙ ap (told 0) (t .before .fault-number .ensures), omega (arith, t .tell .ensures .1))
+    (rw (← t .before .fault-number .ensures) (t .tell .ensures .0), omega (arith, t .tell .ensures .1))
 
 pub tell-refusal-spec : {M : Type 1} → statement M
 tell-refusal-spec =
