@@ -85,8 +85,8 @@ pub fn change(
     bytes: &[u8],
     key: usize,
 ) -> Edited
-    requires { ⌜ Editable strict t (now w) l ⌝ }
-    requires { ⌜ Handed c t (now bytes) key ⌝ }
+    requires store { ⌜ Editable strict t (now w) l ⌝ }
+    requires handed { ⌜ Handed c t (now bytes) key ⌝ }
     ensures { λ r. ⌜ Edits (λ rows. edit strict rows (editOf c t (now (bytes .entry)))) (now (w .entry)) (now (w .exit)) r ⌝ }
 {
     let x = table_update::extent_of(l, t);
