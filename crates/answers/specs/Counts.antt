@@ -1,4 +1,5 @@
 -- Document 01's "Tally": what an answer adds to the four counts, and the number of each case of the call's answer. Assumes nothing.
+use mathlib.Core.Path.{_≡_}
 use mathlib.Core.Bool.{Bool, true, false, cond, _||_}
 use Prim.Native.Nat.{ℕ, _+_, _^_, _%_}
 use lib.Dec.{eqb, leb}
@@ -32,6 +33,12 @@ counted t answer = record {
 abbrev pub judged : ℕ → Counted
 judged answer = cond (leb answer 31) Done (Faulty OutOfRange)
 
--- both of them together
+-- an answer counted into the tally `found`, which is `after` then
+pub record Counts (found : Tally) (answer : ℕ) (after : Tally) (r : Counted) : Type 0 where
+  pub tally-is : after ≡ counted found answer
+  pub answer-is : r ≡ judged answer
+  pub number-is : countedNumber r ≡ countedNumber (judged answer)
+
+-- the tally and the call's answer together
 abbrev pub stepOf : Tally → ℕ → Step
 stepOf t answer = record { tally = counted t answer; answer = judged answer }

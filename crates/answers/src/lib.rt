@@ -1,7 +1,7 @@
 // What a call hands back, and document 01's number for each case.
 ghost use mathlib.Core.Path.{_≡_};
 ghost use Rattle.answers.specs.Numbers.{causeNumber, decisionNumber, faultNumber, answerNumber, writtenNumber};
-ghost use Rattle.answers.specs.Counts.{countedNumber, counted, judged, stepOf};
+ghost use Rattle.answers.specs.Counts.{countedNumber, stepOf, Counts};
 
 // Why a decision refuses: RFC 3415's errorIndication.
 pub enum Cause {
@@ -163,7 +163,7 @@ fn step_of(t: Tally, answer: u32) -> Step
 
 // Counts an answer.
 pub fn count(tally: &mut Tally, answer: u32) -> Counted
-    ensures { λ r. ⌜ (now (tally .exit) ≡ counted (now (tally .entry)) answer) × (r ≡ judged answer) ⌝ }
+    ensures { λ r. ⌜ Counts (now (tally .entry)) answer (now (tally .exit)) r ⌝ }
 {
     let step = step_of(*tally, answer);
     *tally = step.tally;
@@ -172,7 +172,7 @@ pub fn count(tally: &mut Tally, answer: u32) -> Counted
 
 // The same for a caller that holds its tally by value: it is lent to `count` for the call, and handed back.
 pub fn count_owned(mut tally: Tally, answer: u32) -> Step
-    ensures { λ r. ⌜ r ≡ stepOf tally answer ⌝ }
+    ensures { λ r. ⌜ Counts tally answer (r .tally) (r .answer) ⌝ }
 {
     let counted = count(&mut tally, answer);
     Step {

@@ -8,6 +8,8 @@ use native.Mathlib.Omega.{arith}
 use lib.Dec.{leb}
 use lib.ListN.{length, take, getD, length-append}
 use lib.Seq.{take-at}
+use Rattle.answers.specs.Numbers.{answerNumber}
+use Rattle.answers.specs.declared.Answer.{Answer}
 use Rattle.answers.specs.declared.Answer.the-variants.{Faulty}
 use Rattle.answers.specs.declared.Fault.{Fault}
 use Rattle.answers.specs.declared.Fault.the-variants.{NotSound}
@@ -27,6 +29,7 @@ use Rattle.decision_steps.specs.Request.{Request, legalRequest, longestName, no
 use Rattle.decision_steps.specs.Decision.{answerOn, answer}
 use Rattle.decision_steps.specs.Bytes.{identifier}
 use Rattle.decision_steps.proofs.Identifiers.{identifier-bytesOf}
+use Rattle.decision.specs.Decides.{Decides}
 
 -- a variable in range has few parts
 pub variable-few : (q : Request) → legalRequest q ≡ true → length (q .variableName) ≤ mostParts
@@ -56,10 +59,14 @@ module _ (w : List ℕ) where
   layout-sound e = let s = store-laid w e in rw (s .1) (sound-layout w (s .0))
 
   module _ (q : Request) where
-    pub answer-unsound : {f : Fault} → Bad f ≡ surveyed (storeFault w) (layoutOf w) → Faulty NotSound ≡ answer (held w) q
-    unfolding held
-    answer-unsound e = sym (rw (store-bad w e))
+    -- the number is that of the answer
+    pub decides : {r : Answer} → r ≡ answer (held w) q → Decides q w r
+    decides e = record { answer-is = e; number-is = ap answerNumber e }
 
-    pub answer-laid : {l : Layout} → Laid l ≡ surveyed (storeFault w) (layoutOf w) → answerOn (tablesAt w l) q ≡ answer (held w) q
+    pub answer-unsound : {f : Fault} → Bad f ≡ surveyed (storeFault w) (layoutOf w) → Decides q w (Faulty NotSound)
     unfolding held
-    answer-laid e = sym (rw (store-laid w e .0, store-laid w e .1))
+    answer-unsound e = decides (sym (rw (store-bad w e)))
+
+    pub answer-laid : {r : Answer} {l : Layout} → r ≡ answerOn (tablesAt w l) q → Laid l ≡ surveyed (storeFault w) (layoutOf w) → Decides q w r
+    unfolding held
+    answer-laid a e = decides (a ∙ sym (rw (store-laid w e .0, store-laid w e .1)))

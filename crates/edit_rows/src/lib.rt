@@ -35,9 +35,9 @@ pub fn judge_place(w: &[u8], strict: bool, c: Operation, p: Place, bytes: &[u8])
     requires { ⌜ (strict ≡ true → StorageKnown c (now w) p (now bytes)) ⌝ }
     ensures { λ r. ⌜ r ≡ faulted (placeFault strict c (p .present) (storageAt (now (w .entry)) p) (storageIn (now (bytes .entry)))) ⌝ }
 {
-    let judged = judge_presence(c, p.present);
-    let Edited::Done = judged else {
-        return judged;
+    let presence = judge_presence(c, p.present);
+    let Edited::Done = presence else {
+        return presence;
     };
     if strict {
         if !edit_rules::may_change(w, c, p, bytes) {
@@ -85,8 +85,8 @@ pub fn change(
     bytes: &[u8],
     key: usize,
 ) -> Edited
-    requires { ⌜ Editable strict t (now w) l ⌝ }
-    requires { ⌜ Handed c t (now bytes) key ⌝ }
+    requires store { ⌜ Editable strict t (now w) l ⌝ }
+    requires handed { ⌜ Handed c t (now bytes) key ⌝ }
     ensures { λ r. ⌜ Edits (λ rows. edit strict rows (editOf c t (now (bytes .entry)))) (now (w .entry)) (now (w .exit)) r ⌝ }
 {
     let x = table_update::extent_of(l, t);

@@ -87,7 +87,7 @@ pub record Done (w : List ℕ) (c : Call) : Type 0 where
   pub octets : Octets left
 
 pub call-done : (w : List ℕ) → Octets w → (c : Call) → HandsOctets c → Done w c
-call-done w b (ask q) d = record { reply = decided (answer (held w) q); left = w; does = asks refl; octets = b }
+call-done w b (ask q) d = record { reply = decided (answer (held w) q); left = w; does = asks (record { answer-is = refl; number-is = refl }); octets = b }
 call-done w b (owner e) d =
     let m = owner-made e d w b in record { reply = edited (m .answered); left = m .left; does = owns (m .promise); octets = m .octets }
 call-done w b (by c e) d =

@@ -31,6 +31,6 @@ edits-step f s s′ t r d e = (d .answer-is ∙ ap (answered f) e, d .rows-are �
 pub does-step : {s s′ : List ℕ} {c : Call} {r : Reply} → (t : Tables) → Does s c r s′ → held s ≡ some t
     → (r ≡ step t c .0) × (held s′ ≡ some (step t c .1))
 unfolding step
-does-step t (asks {q = q} d) e = (ap decided (d ∙ ap (λ o. answer o q) e), e)
+does-step t (asks {q = q} d) e = (ap decided (d .answer-is ∙ ap (λ o. answer o q) e), e)
 does-step t (owns {e = a} d) e = let h = edits-step (λ u. ownerEdit u a) _ _ t _ d e in (ap edited (h .0), h .1)
 does-step t (acts {c = c} {e = a} d) e = let h = edits-step (λ u. principalEdit u c a) _ _ t _ d e in (ap edited (h .0), h .1)

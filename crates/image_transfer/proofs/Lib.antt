@@ -4,3 +4,4 @@ pub mod Parts
 pub mod Fronts
 pub mod Promises
 pub mod Inverse
+pub mod Examples

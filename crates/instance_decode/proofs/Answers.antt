@@ -31,7 +31,7 @@ use Rattle.instance_fields.proofs.Way.{Took}
 module _ (t : Table) (column : ℕ) (index found : List ℕ) where
   pub index-unread : parseFields (keyFields t) index ≡ none → Delivers (readIndex t column index) found found (Faulty NotAnInstance)
   unfolding bind
-  index-unread e = rw e (record { answer-is = refl; buffer-is = refl })
+  index-unread e = rw e (record { answer-is = refl; number-is = refl; buffer-is = refl })
 
   -- read from the start into a buffer of its own
   module _ {zeros made : List ℕ} {next end : ℕ}
@@ -41,7 +41,7 @@ module _ (t : Table) (column : ℕ) (index found : List ℕ) where
     index-over h =
         let n : eqb (length (k .it .rest)) 0 ≡ false =
         ne-eqb (length (k .it .rest)) 0 (λ z. omega (arith, ap length (k .rest-is), length-drop (next) index)) in
-        rw (k .is, n) (record { answer-is = refl; buffer-is = refl })
+        rw (k .is, n) (record { answer-is = refl; number-is = refl; buffer-is = refl })
 
     key : List ℕ
     key = rowBytes (keyFields t) (k .it .holds)
@@ -70,6 +70,7 @@ module _ (t : Table) (column : ℕ) (index found : List ℕ) where
         eq-eqb (length (k .it .rest)) 0 (omega (arith, ap length (k .rest-is), length-drop (next) index)) in
         rw (k .is, e) (record {
           answer-is = ap (Instance t column) end-is;
+          number-is = refl;
           buffer-is =
               c ∙ ap (λ b. paste found 0 b (length b)) made-front
               ∙ ap (λ b. b ++ drop (0 + length key) found) (take-all (length key) key (omega arith)) ∙ rw (zero-add (length key));
@@ -88,7 +89,7 @@ found-nowhere (some u) e = cc
 module _ (oid found : List ℕ) where
   pub no-table : tableOf oid ≡ none → Delivers (readInstance oid) found found (Faulty NotAnInstance)
   unfolding readInstance bind
-  no-table e = rw e (record { answer-is = refl; buffer-is = refl })
+  no-table e = rw e (record { answer-is = refl; number-is = refl; buffer-is = refl })
 
   module _ {t : Table} (e : tableOf oid ≡ some t) (n : ℕ) (l : n ≡ length (base t)) where
     column-read : readInstance oid ≡ readColumn t (drop n oid)
@@ -97,7 +98,7 @@ module _ (oid found : List ℕ) where
 
     pub no-column : length oid ≤ n → Delivers (readInstance oid) found found (Faulty NotAnInstance)
     unfolding readColumn
-    no-column h = rw (column-read, drop-of-length-le oid h) (record { answer-is = refl; buffer-is = refl })
+    no-column h = rw (column-read, drop-of-length-le oid h) (record { answer-is = refl; number-is = refl; buffer-is = refl })
 
     -- the part behind the base was read
     module _ {column next left : ℕ} (p : PartRead oid n column next left) where
@@ -108,7 +109,7 @@ module _ (oid found : List ℕ) where
 
       pub column-unlisted : lists t column ≡ false → Delivers (readInstance oid) found found (Faulty NotAnInstance)
       unfolding readColumn
-      column-unlisted f = rw (headed, f) (record { answer-is = refl; buffer-is = refl })
+      column-unlisted f = rw (headed, f) (record { answer-is = refl; number-is = refl; buffer-is = refl })
 
       pub column-listed : lists t column ≡ true → (after : List ℕ) (r : Decoded)
           → Delivers (readIndex t column (take (length oid - next) (drop next oid))) found after r → Delivers (readInstance oid) found after r

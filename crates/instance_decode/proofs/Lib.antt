@@ -1,3 +1,4 @@
 pub mod Begins
 pub mod Answers
 pub mod Inverse
+pub mod Examples

@@ -17,6 +17,7 @@ use Rattle.instance_decode.specs.declared.Found.{Found}
 use Rattle.instance_decode.specs.declared.Found.the-variants.{In, Nowhere}
 use Rattle.instance_decode.specs.declared.Decoded.{Decoded}
 use Rattle.instance_decode.specs.declared.Decoded.the-variants.{Instance, Faulty}
+use Rattle.instance_decode.specs.Numbers.{decodedNumber}
 use Rattle.instance_encode.specs.Instances.{base, lists}
 
 -- ---- the whole identifier: a base, a column that its table lists, and an index
@@ -59,9 +60,10 @@ abbrev pub buffered : Option Reading → List ℕ → List ℕ
 buffered none found = found
 buffered (some d) found = keyBytes d ++ drop (length (keyBytes d)) found
 
--- what is read, handed over: the answer; the buffer is the key and then as found, or wholly as found
+-- what is read, handed over: the answer and its number; the buffer is the key and then as found, or wholly as found
 pub record Delivers (d : Option Reading) (found after : List ℕ) (r : Decoded) : Type 0 where
   pub answer-is : r ≡ decoded d
+  pub number-is : decodedNumber r ≡ decodedNumber (decoded d)
   pub buffer-is : after ≡ buffered d found
 
 abbrev pub Decodes : (oid found after : List ℕ) → Decoded → Type 0

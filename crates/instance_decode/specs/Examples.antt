@@ -1,14 +1,12 @@
--- Document 01's example P10: the status of ann's mapping. Assumes nothing.
-use mathlib.Core.Path.{_≡_, refl}
+-- Document 01's example P10, the status of ann's mapping; proved in proofs/Examples.antt. Assumes nothing.
+use mathlib.Core.Path.{_≡_}
 use mathlib.Core.List.{List, [], _∷_}
-use mathlib.Core.Option.{some, bind}
+use mathlib.Core.Option.{some}
 use Prim.Native.Nat.{ℕ}
-use Rattle.numbers.specs.Order.{begins}
 use Rattle.rows.specs.declared.Table.the-variants.{Mapping}
-use Rattle.rows.specs.Rows.{keyFields, indexOf}
+use Rattle.rows.specs.Rows.{indexOf}
 use Rattle.instance_encode.specs.Instances.{instance, statusColumn}
-use Rattle.instance_fields.specs.Indices.{parseField, parseFields}
-use Rattle.instance_decode.specs.Decoding.{readColumn, tableOf, readInstance}
+use Rattle.instance_decode.specs.Decoding.{readInstance}
 use Rattle.instance_decode.specs.Inverse.{readingOf}
 
 -- model 3, and "ann"
@@ -19,10 +17,6 @@ annKey = 0 ∷ 0 ∷ 0 ∷ 3 ∷ 3 ∷ 97 ∷ 110 ∷ 110 ∷ []
 abbrev pub annStatus : List ℕ
 annStatus = 1 ∷ 3 ∷ 6 ∷ 1 ∷ 6 ∷ 3 ∷ 16 ∷ 1 ∷ 2 ∷ 1 ∷ 5 ∷ 3 ∷ 3 ∷ 97 ∷ 110 ∷ 110 ∷ []
 
-pub p10-encoded : instance Mapping (statusColumn Mapping) (indexOf Mapping annKey) ≡ annStatus
-unfolding keyFields
-p10-encoded = refl
-
-pub p10-decoded : readInstance annStatus ≡ some (readingOf Mapping 5 annKey)
-unfolding begins keyFields parseField parseFields readColumn tableOf readInstance bind
-p10-decoded = refl
+pub record P10 : Type 0 where
+  pub encoded : instance Mapping (statusColumn Mapping) (indexOf Mapping annKey) ≡ annStatus
+  pub decoded : readInstance annStatus ≡ some (readingOf Mapping 5 annKey)

@@ -81,7 +81,7 @@ instance-laid n column b v w l h =
 
 module _ (t : Table) (column : ℕ) (key found : List ℕ) where
   refused : {f : Fault} → encodeFault t column key (length found) ≡ some f → Encodes t column key found found (Unwritten f)
-  refused e = record { answer-is = rw e; buffer-is = rw e }
+  refused e = record { answer-is = rw e; number-is = rw e; buffer-is = rw e }
 
   pub encode-unlisted : lists t column ≡ false → Encodes t column key found found (Unwritten OutOfRange)
   unfolding encodeFault
@@ -106,4 +106,4 @@ module _ (t : Table) (column : ℕ) (key found : List ℕ) where
       pub encode-done :
           Encodes t column key found (instance t column (indexOf t key) ++ drop (length (instance t column (indexOf t key))) found)
           (Length (length (instance t column (indexOf t key))))
-      encode-done = record { answer-is = rw encode-accepted; buffer-is = rw encode-accepted }
+      encode-done = record { answer-is = rw encode-accepted; number-is = rw encode-accepted; buffer-is = rw encode-accepted }

@@ -6,6 +6,7 @@ use mathlib.Core.Option.{Option, none, some}
 use Prim.Native.Nat.{ℕ}
 use lib.Dec.{eqb, leb}
 use lib.ListN.{length, drop}
+use Rattle.answers.specs.Numbers.{writtenNumber}
 use Rattle.answers.specs.declared.Fault.{Fault}
 use Rattle.answers.specs.declared.Fault.the-variants.{OutOfRange, TooShort}
 use Rattle.numbers.specs.Lists.{any, isNone}
@@ -62,9 +63,12 @@ abbrev pub written : Option Fault → ℕ → Written
 written none n = Length n
 written (some f) n = Unwritten f
 
--- encoding: the answer; the buffer is the instance and then as found, or wholly as found
+-- encoding: the answer and its number; the buffer is the instance and then as found, or wholly as found
 pub record Encodes (t : Table) (column : ℕ) (key found after : List ℕ) (r : Written) : Type 0 where
   pub answer-is : r ≡ written (encodeFault t column key (length found)) (length (instance t column (indexOf t key)))
+  pub number-is :
+      writtenNumber r
+      ≡ writtenNumber (written (encodeFault t column key (length found)) (length (instance t column (indexOf t key))))
   pub buffer-is :
       after
       ≡ cond (isNone (encodeFault t column key (length found)))

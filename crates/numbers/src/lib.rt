@@ -1,6 +1,6 @@
-// Numbers in the bytes of a lent slice, big-endian: read and written.
+// Numbers in the bytes of a lent slice, big-endian: read and written; and the lesser of two.
 ghost use mathlib.Core.Path.{_≡_};
-ghost use Prim.Native.Nat.{_+_, _*_, _≤_, _<_};
+ghost use Prim.Native.Nat.{_+_, _*_, _≤_, _<_, min};
 ghost use lib.ListN.{length, drop};
 ghost use Rattle.numbers.specs.Laid.{laid};
 ghost use Rattle.numbers.specs.BigEndian.{quad, number, bytes, bytesOf};
@@ -11,6 +11,16 @@ pub fn wide(x: u8) -> usize
     ensures bounded { λ r. ⌜ r < 256 ⌝ }
 {
     x as usize
+}
+
+// The lesser of two lengths.
+pub fn least(a: usize, b: usize) -> usize
+    ensures { λ r. ⌜ r ≡ min a b ⌝ }
+{
+    if a < b {
+        return a;
+    }
+    b
 }
 
 // The number that the four bytes at `at` say, big-endian.

@@ -1,6 +1,6 @@
 // Octets of lent slices compared, many at a time: whether they are the same, and which stand first.
 ghost use mathlib.Core.Path.{_≡_};
-ghost use Prim.Native.Nat.{_+_, _≤_, min};
+ghost use Prim.Native.Nat.{_+_, _≤_};
 ghost use lib.ListN.{length, take};
 ghost use Rattle.numbers.specs.Order.{same, before};
 ghost use Rattle.octets.specs.Same.{sameFour, sameEight};
@@ -17,7 +17,7 @@ pub fn same_four(a: &[u8], b: &[u8], i: usize) -> bool
 }
 
 // Whether the eight octets at `i` are the same, by one comparison likewise.
-pub fn same_eight(a: &[u8], b: &[u8], i: usize) -> bool
+fn same_eight(a: &[u8], b: &[u8], i: usize) -> bool
     requires first { ⌜ i + 8 ≤ length (now a) ⌝ }
     requires second { ⌜ i + 8 ≤ length (now b) ⌝ }
     ensures { λ r. ⌜ r ≡ sameEight (now (a .entry)) (now (b .entry)) i ⌝ }
@@ -27,10 +27,10 @@ pub fn same_eight(a: &[u8], b: &[u8], i: usize) -> bool
 
 // A number of octets, at most `n`, that are the same in front, where the first `from` are known to be: 8 a turn.
 pub fn skip(a: &[u8], b: &[u8], from: usize, n: usize) -> usize
-    requires { ⌜ from ≤ n ⌝ }
-    requires { ⌜ n ≤ length (now a) ⌝ }
-    requires { ⌜ n ≤ length (now b) ⌝ }
-    requires { ⌜ take from (now a) ≡ take from (now b) ⌝ }
+    requires begun { ⌜ from ≤ n ⌝ }
+    requires first { ⌜ n ≤ length (now a) ⌝ }
+    requires second { ⌜ n ≤ length (now b) ⌝ }
+    requires known { ⌜ take from (now a) ≡ take from (now b) ⌝ }
     ensures within { λ r. ⌜ r ≤ n ⌝ }
     ensures equal { λ r. ⌜ take r (now (a .entry)) ≡ take r (now (b .entry)) ⌝ }
 {
@@ -80,8 +80,8 @@ pub enum Order {
 
 // A number of octets, at most `n`, that are the same in front: 32 a turn.
 fn skip_long(a: &[u8], b: &[u8], n: usize) -> usize
-    requires { ⌜ n ≤ length (now a) ⌝ }
-    requires { ⌜ n ≤ length (now b) ⌝ }
+    requires first { ⌜ n ≤ length (now a) ⌝ }
+    requires second { ⌜ n ≤ length (now b) ⌝ }
     ensures within { λ r. ⌜ r ≤ n ⌝ }
     ensures equal { λ r. ⌜ take r (now (a .entry)) ≡ take r (now (b .entry)) ⌝ }
 {
@@ -98,22 +98,12 @@ fn skip_long(a: &[u8], b: &[u8], n: usize) -> usize
     i
 }
 
-// The shorter of two lengths.
-fn shorter(a: usize, b: usize) -> usize
-    ensures { λ r. ⌜ r ≡ min a b ⌝ }
-{
-    if a < b {
-        return a;
-    }
-    b
-}
-
 // Whether `a` stands before `b`. Four octets are compared as one number, big-endian: such numbers stand to each other as the octets do.
 // Called at one place, so that the compiler puts it there whole.
 pub fn ascends(a: &[u8], b: &[u8]) -> bool
     ensures { λ r. ⌜ r ≡ before (now (a .entry)) (now (b .entry)) ⌝ }
 {
-    let n = shorter(a.len(), b.len());
+    let n = numbers::least(a.len(), b.len());
     let mut i = skip(a, b, skip_long(a, b, n), n);
     if 4 <= n - i {
         let x = numbers::quad_at(a, i);
@@ -138,7 +128,7 @@ pub fn ascends(a: &[u8], b: &[u8]) -> bool
 pub fn compare(a: &[u8], b: &[u8]) -> Order
     ensures { λ r. ⌜ r ≡ order (now (a .entry)) (now (b .entry)) ⌝ }
 {
-    let n = shorter(a.len(), b.len());
+    let n = numbers::least(a.len(), b.len());
     let mut i = skip(a, b, 0, n);
     while i < a.len() {
         if b.len() <= i {

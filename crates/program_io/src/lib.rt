@@ -5,7 +5,7 @@ use libc::ENOENT;
 use libc::STDIN_FILENO;
 use libc::STDOUT_FILENO;
 ghost use mathlib.Core.Path.{_≡_};
-ghost use Prim.Native.Nat.{suc, _+_, _≤_, _<_, min};
+ghost use Prim.Native.Nat.{suc, _+_, _≤_, _<_};
 ghost use lib.ListN.{length, take};
 ghost use Rattle.text_words.specs.Words.{longest};
 ghost use Rattle.image.specs.Store.{room as largest};
@@ -164,12 +164,6 @@ pub struct Continued {
     pub end: usize,
 }
 
-fn least(a: usize, b: usize) -> usize
-    ensures { λ r. ⌜ r ≡ min a b ⌝ }
-{
-    if a < b { a } else { b }
-}
-
 // Continues the line, of which `begun` octets are there, with those of `piece` from `at` up to a newline or its end.
 fn continue_line(line: &mut [u8], begun: usize, piece: &[u8], at: usize) -> Continued
     requires begun { ⌜ begun ≤ length (now line) ⌝ }
@@ -177,7 +171,7 @@ fn continue_line(line: &mut [u8], begun: usize, piece: &[u8], at: usize) -> Cont
     ensures { λ r. ⌜ Continues r (now (line .entry)) (now (line .exit)) begun (now (piece .entry)) at ⌝ }
 {
     let end = text_words::end_of(piece, at, b'\n');
-    let n = least(end - at, line.len() - begun);
+    let n = numbers::least(end - at, line.len() - begun);
     let to = at + n;
     splice::copy_in(line, begun, &piece[at..to]);
     Continued {

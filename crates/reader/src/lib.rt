@@ -3,7 +3,7 @@
 ghost use mathlib.Core.Path.{_≡_};
 ghost use Prim.Native.Nat.{_-_};
 ghost use lib.ListN.{length};
-ghost use Rattle.reader.specs.Reading.{partAt, stepAt, movedOn, readFrom};
+ghost use Rattle.reader.specs.Reading.{stepAt, readerAt, ReadsOn, readFrom};
 
 pub struct Reader<'a> {
     pub parts: &'a [u32],
@@ -54,14 +54,14 @@ pub fn left_at(parts: &[u32], at: usize) -> usize
 
 // A reader at a place.
 pub fn new<'a>(parts: &'a [u32], at: usize) -> Reader<'a>
-    ensures { λ r. ⌜ (r .parts ≡ parts .entry) × (r .at ≡ at) ⌝ }
+    ensures { λ r. ⌜ r ≡ readerAt (parts .entry) at ⌝ }
 {
     Reader { parts, at }
 }
 
 // Reads the part at the reader's place and moves on behind it; at the end the reader stays.
 pub fn next<'s, 'a>(r: &'s mut Reader<'a>) -> Part
-    ensures { λ p. ⌜ (p ≡ partAt (now (now (r .entry) .parts)) (now (r .entry) .at)) × (now (r .exit) ≡ movedOn (now (r .entry))) ⌝ }
+    ensures { λ p. ⌜ ReadsOn (now (r .entry)) (now (r .exit)) p ⌝ }
 {
     let step = step_at(r.parts, r.at);
     r.at = step.at;

@@ -8,6 +8,7 @@ use Rattle.rows.specs.Fields.{sequenceFault, integerFault, faults}
 use Rattle.rows.specs.Rows.{keyFields, rowFields}
 use Rattle.image_layout.specs.Layout.{laidOut, layoutOf}
 use Rattle.image.specs.Image.{imageFault, sizedFault}
+use Rattle.image.specs.Examples.{p12}
 use Rattle.image_judge.specs.Faults.{rowsFault, tableFault, tablesAt}
 use Rattle.decision_steps.specs.Request.{legalRequest}
 use Rattle.decision_steps.specs.Decision.{decision, bearsContext, mapsPrincipal}
@@ -18,10 +19,6 @@ use Rattle.line_fields.specs.Requests.{request}
 use Rattle.request_lines.specs.Answers.{lineAnswer}
 use Rattle.program_io.specs.Lines.{linesOf}
 use Rattle.request_lines.specs.Report.{told, report, written}
-
--- one empty context
-abbrev pub p12 : List ℕ
-p12 = 0 ∷ 1 ∷ 0 ∷ 0 ∷ 0 ∷ 0 ∷ 0 ∷ 0 ∷ 0 ∷ 1 ∷ 0 ∷ []
 
 -- `3 1 1 616e6e - 1.3.6.1`, `3 4 1 616e6e - 1.3`
 abbrev pub twoLines : List ℕ

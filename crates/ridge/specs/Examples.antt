@@ -10,6 +10,7 @@ use Rattle.rows.specs.declared.Table.the-variants.{Mapping}
 use Rattle.rows.specs.Fields.{index}
 use Rattle.rows.specs.Rows.{keyFields}
 use Rattle.rows.specs.Tables.{Tables, noRows}
+use Rattle.image.specs.Examples.{p11, emptyContext, p12}
 use Rattle.decision_steps.specs.Request.{Request, asked}
 use Rattle.decision_steps.specs.Decision.{answer}
 use Rattle.instance_encode.specs.Instances.{instance}
@@ -32,15 +33,6 @@ below parts = 1 ∷ 3 ∷ 6 ∷ 1 ∷ 2 ∷ 1 ∷ 2 ∷ 2 ∷ 1 ∷ parts
 -- security name, level, view type, context, the variable's last parts, the answer
 abbrev example : List ℕ → ℕ → ℕ → List ℕ → List ℕ → ℕ → Example
 example name level view context parts number = answered (asked 3 name level view context (below parts)) number
-
--- one empty context
-abbrev emptyContext : Tables
-emptyContext = record {
-  vacmContextTable = record { contextName = [] } ∷ [];
-  vacmSecurityToGroupTable = [];
-  vacmAccessTable = [];
-  vacmViewTreeFamilyTable = [];
-}
 
 abbrev pub examples : List Example
 examples =
@@ -65,9 +57,9 @@ examples =
     -- P10: the status of ann's mapping
     ∷ isInstance Mapping 5 ((3 ∷ []) ∷ ann ∷ []) (1 ∷ 3 ∷ 6 ∷ 1 ∷ 6 ∷ 3 ∷ 16 ∷ 1 ∷ 2 ∷ 1 ∷ 5 ∷ 3 ∷ 3 ∷ 97 ∷ 110 ∷ 110 ∷ [])
     -- P11: a fresh image
-    ∷ isImage noRows (0 ∷ 0 ∷ 0 ∷ 0 ∷ 0 ∷ 0 ∷ 0 ∷ 0 ∷ [])
+    ∷ isImage noRows p11
     -- P12: one empty context
-    ∷ isImage emptyContext (0 ∷ 1 ∷ 0 ∷ 0 ∷ 0 ∷ 0 ∷ 0 ∷ 0 ∷ 0 ∷ 1 ∷ 0 ∷ [])
+    ∷ isImage emptyContext p12
     ∷ []
 
 -- the C call's number of the Ridge image and the request, its variable as big-endian 4-byte parts

@@ -175,7 +175,7 @@ fn view_end(row: &[u8]) -> usize
 }
 
 // Where the key of a legal row ends, or 0.
-pub fn key_end(t: Table, row: &[u8]) -> usize
+fn key_end(t: Table, row: &[u8]) -> usize
     ensures { λ r. ⌜ KeyEnd t (now (row .entry)) r ⌝ }
 {
     match t {

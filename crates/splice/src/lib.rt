@@ -39,7 +39,9 @@ fn move_block(w: &mut [u8], from: usize, to: usize)
 fn move_blocks_up(w: &mut [u8], from: usize, end: usize, by: usize) -> usize
     requires part { ⌜ from ≤ end ⌝ }
     requires room { ⌜ end + by ≤ length (now w) ⌝ }
-    ensures { λ r. ⌜ (from ≤ r) × (r ≤ end) × (now (w .exit) ≡ moved (now (w .entry)) r end (r + by)) ⌝ }
+    ensures behind { λ r. ⌜ from ≤ r ⌝ }
+    ensures within { λ r. ⌜ r ≤ end ⌝ }
+    ensures moves { λ r. ⌜ now (w .exit) ≡ moved (now (w .entry)) r end (r + by) ⌝ }
 {
     let mut j = end;
     while BLOCK <= j - from {
@@ -64,8 +66,12 @@ fn move_up(w: &mut [u8], from: usize, end: usize, by: usize)
 
 // Moves blocks from `from` back by `by`, the first first, while one fits in front of `end`, and says up to where.
 fn move_blocks_down(w: &mut [u8], from: usize, end: usize, by: usize) -> usize
-    requires { ⌜ (by ≤ from) × (from ≤ end) × (end ≤ length (now w)) ⌝ }
-    ensures { λ r. ⌜ (from ≤ r) × (r ≤ end) × (now (w .exit) ≡ moved (now (w .entry)) from r (from - by)) ⌝ }
+    requires back { ⌜ by ≤ from ⌝ }
+    requires part { ⌜ from ≤ end ⌝ }
+    requires inside { ⌜ end ≤ length (now w) ⌝ }
+    ensures behind { λ r. ⌜ from ≤ r ⌝ }
+    ensures within { λ r. ⌜ r ≤ end ⌝ }
+    ensures moves { λ r. ⌜ now (w .exit) ≡ moved (now (w .entry)) from r (from - by) ⌝ }
 {
     let mut j = from;
     while BLOCK <= end - j {
@@ -77,7 +83,9 @@ fn move_blocks_down(w: &mut [u8], from: usize, end: usize, by: usize) -> usize
 
 // Moves the octets from `from` up to `end` back by `by`, the first first.
 fn move_down(w: &mut [u8], from: usize, end: usize, by: usize)
-    requires { ⌜ (by ≤ from) × (from ≤ end) × (end ≤ length (now w)) ⌝ }
+    requires back { ⌜ by ≤ from ⌝ }
+    requires part { ⌜ from ≤ end ⌝ }
+    requires inside { ⌜ end ≤ length (now w) ⌝ }
     ensures { λ _. ⌜ now (w .exit) ≡ moved (now (w .entry)) from end (from - by) ⌝ }
 {
     let mut j = move_blocks_down(w, from, end, by);
@@ -89,7 +97,9 @@ fn move_down(w: &mut [u8], from: usize, end: usize, by: usize)
 
 // Moves the octets from `from` up to `end` so that they stand from `to` on.
 pub fn shift(w: &mut [u8], from: usize, end: usize, to: usize)
-    requires { ⌜ (from ≤ end) × (end ≤ length (now w)) × (to + (end - from) ≤ length (now w)) ⌝ }
+    requires part { ⌜ from ≤ end ⌝ }
+    requires inside { ⌜ end ≤ length (now w) ⌝ }
+    requires room { ⌜ to + (end - from) ≤ length (now w) ⌝ }
     ensures { λ _. ⌜ now (w .exit) ≡ moved (now (w .entry)) from end to ⌝ }
 {
     if from < to {
@@ -101,7 +111,9 @@ pub fn shift(w: &mut [u8], from: usize, end: usize, to: usize)
 
 // The `gone` octets at `at` give way to `new`, and what stands behind them up to `end` follows.
 fn splice(w: &mut [u8], at: usize, gone: usize, end: usize, new: &[u8])
-    requires { ⌜ (at + gone ≤ end) × (end ≤ length (now w)) × (end - gone + length (now new) ≤ length (now w)) ⌝ }
+    requires part { ⌜ at + gone ≤ end ⌝ }
+    requires inside { ⌜ end ≤ length (now w) ⌝ }
+    requires room { ⌜ end - gone + length (now new) ≤ length (now w) ⌝ }
     ensures { λ _. ⌜ now (w .exit) ≡ spliced (now (w .entry)) at gone end (now (new .entry)) ⌝ }
 {
     shift(w, at + gone, end, at + new.len());
@@ -120,8 +132,10 @@ pub fn splice_two(
     end: usize,
     new: &[u8],
 )
-    requires { ⌜ (place + had ≤ at) × (at + gone ≤ end) × (end ≤ length (now w))
-        × (end - gone - had + length (now head) + length (now new) ≤ length (now w)) ⌝ }
+    requires first { ⌜ place + had ≤ at ⌝ }
+    requires second { ⌜ at + gone ≤ end ⌝ }
+    requires inside { ⌜ end ≤ length (now w) ⌝ }
+    requires room { ⌜ end - gone - had + length (now head) + length (now new) ≤ length (now w) ⌝ }
     ensures { λ _. ⌜ now (w .exit) ≡ splicedTwo (now (w .entry)) place had (now (head .entry)) at gone end (now (new .entry)) ⌝ }
 {
     let to = at - had + head.len();

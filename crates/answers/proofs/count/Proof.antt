@@ -45,7 +45,7 @@ use denote.Triple.Clauses.{ensured, lasts}
 use denote.Triple.Table.{entered, cited}
 use denote.Triple.Walked.{says, Stays, stay-ref, stay-none, walkOf, AllGo, goes-none, goes-ref, Walks, ends-at, walked, walk-meets}
 use denote.Exit.{yes}
-use Rattle.answers.specs.Counts.{stepOf}
+use Rattle.answers.specs.Counts.{countedNumber, stepOf, Counts}
 use Rattle.answers.specs.declared.Tally.{Tally}
 use Rattle.answers.specs.declared.Step.{Step}
 use Rattle.answers.proofs.Tally as T
@@ -103,6 +103,11 @@ module _ {M : Type 1} (𝓤 : URA M) (H : Heap 𝓤) (A : Atoms 𝓤) (W : Given
   step-said : (r : Step) → ent 𝓤 (ensured 𝓤 H A step.ended (step.clauses 𝓤 H A at-mem run) tt (h, (n, tt)) tt r) (fact 𝓤 (r ≡ stepOf h n))
   step-said r = exE 𝓤 _ (λ ws. snd∗ 𝓤 (sem 𝓤 H A (lasts step.ended tt (h, (n, tt)) ws)) (fact 𝓤 (r ≡ stepOf h n)))
 
+  promised : (r : Step) → r ≡ stepOf h n → Counts h n (r .tally) (r .answer)
+  promised r e =
+      let answered = ap (λ (s : Step). s .answer) e in
+      record { tally-is = ap (λ (s : Step). s .tally) e; answer-is = answered; number-is = ap countedNumber answered }
+
   exits : (r : Step) → r ≡ stepOf h n → Is D.the-row (r .answer) (D′.lowered (r .answer) ∷ [])
       → ent 𝓤 (sep 𝓤 (A .obs γ (T.the-row .coded .code (r .tally))) (sep 𝓤 (A .bor κ (Body (mem T.the-row) b o γ)) (A .lft κ q)))
       (Post (D′.lowered (r .answer)))
@@ -110,7 +115,7 @@ module _ {M : Type 1} (𝓤 : URA M) (H : Heap 𝓤) (A : Atoms 𝓤) (W : Given
       qed W (‵ (fobs γ (T.the-row .coded .code (r .tally))) ∷ ‵ (fbor κ (Body (mem T.the-row) b o γ)) ∷ ‵ (flft κ q) ∷ []) ∵
       suffices ! _ (ends-at 𝓤 H A count.ended stayed (count.clauses 𝓤 H A at-mem run) W (((κ, tt), (q, tt), tt, x, at), tt) (D′.lowered (r .answer))
       (r .answer) (r .tally, (tt, tt)) (tt, (tt, tt))) $
-      says ! (ap (λ (s : Step). s .tally) e, ap (λ (s : Step). s .answer) e) $ nothing ! $ move ! (3 ∷ 0 ∷ []) $ join ! $
+      says ! (promised r e) $ nothing ! $ move ! (3 ∷ 0 ∷ []) $ join ! $
       frame ! $ feqI ! (List Val) (vptr b o ∷ []) (vptr b o ∷ []) refl $ fjoin3 ! $ nothing ! $
       owned ! u32 (Is u32) (uint-makes 𝓤 H A W w32) n _ (refl, fits) $ fjoin ! $ move ! (1 ∷ 0 ∷ []) $ fjoin ! $
       owned ! D.the-row (Is D.the-row) ((EL.makes D.the-type D′.the-plain) 𝓤 H A) (r .answer) _ is $ move ! (1 ∷ 0 ∷ []) $ done !

@@ -46,7 +46,7 @@ use denote.Triple.Table.{entered, cited}
 use denote.Triple.Walked.{says, Stays, stay-none, walkOf, goes-none, Walks, ends-at, walked, walk-meets}
 use denote.Exit.{yes}
 use borrow.Table.OneValue.{part-in-at, part-out-at}
-use Rattle.answers.specs.Counts.{counted, judged}
+use Rattle.answers.specs.Counts.{Counts}
 use Rattle.answers.specs.declared.Tally.{Tally}
 use Rattle.answers.specs.declared.Counted.{Counted}
 use Rattle.answers.proofs.Tally as T
@@ -101,13 +101,13 @@ module _ {M : Type 1} (𝓤 : URA M) (H : Heap 𝓤) (A : Atoms 𝓤) (W : Given
       owned ! u32 (Is u32) (uint-makes 𝓤 H A W w32) n _ (refl, fits) $ fjoin ! $
       move ! (2 ∷ 0 ∷ []) $ fjoin ! $ move ! (1 ∷ 0 ∷ []) $ join ! $ frame ! $ done !
 
-  exits : (t : Tally) (c : Counted) (v u : Val) → t ≡ counted h n → c ≡ judged n → Is T.the-row t (v ∷ []) → Is D.the-row c (u ∷ [])
+  exits : (t : Tally) (c : Counted) (v u : Val) → Counts h n t c → Is T.the-row t (v ∷ []) → Is D.the-row c (u ∷ [])
       → ent 𝓤 (sem 𝓤 H A ftrue) (Post (vstruct (vcons v (vcons u vnil))))
-  exits t c v u et ec ist isc =
+  exits t c v u e ist isc =
       qed W (‵ ftrue ∷ []) ∵
       suffices ! _ (ends-at 𝓤 H A count-owned.ended stayed (count-owned.clauses 𝓤 H A at-mem run) W ((tt, tt, tt, (h, (n, tt)), at), tt) _
       (record { tally = t; answer = c }) (tt, (tt, tt)) (tt, (tt, tt))) $
-      says ! (λ i. record { tally = et i; answer = ec i }) $ frame ! $ nothing ! $ owned ! u32 (Is u32) (uint-makes 𝓤 H A W w32) n _ (refl, fits) $
+      says ! e $ frame ! $ nothing ! $ owned ! u32 (Is u32) (uint-makes 𝓤 H A W w32) n _ (refl, fits) $
       fjoin ! $ owned ! T.the-row (Is T.the-row) ((LL.makes T.the-type T′.the-plain) 𝓤 H A) h _ is $ fjoin ! $
       owned ! S.the-row (Is S.the-row) ((LL.makes S.the-type S′.the-plain) 𝓤 H A) (record { tally = t; answer = c }) _ (step-is t c v u ist isc) $
       move ! (1 ∷ 0 ∷ []) $ done !
@@ -139,8 +139,8 @@ module _ {M : Type 1} (𝓤 : URA M) (H : Heap 𝓤) (A : Atoms 𝓤) (W : Given
         -- what `count` ensures, at some last tally
         split ! $ move ! (1 ∷ []) $
         use1 W (some (λ (ws : Tally × (Unit {0} × Unit {0})). ‵ (lasts count.ended (ν ∷ [], tt) (lent l₃ γ, (n, tt)) ws)
-        ⊛ raw (fact 𝓤 ((ws .0 ≡ counted h n) × (c ≡ judged n))))) (id⊢ 𝓤 _) $ pick ! (λ ws.
-        split ! $ move ! (1 ∷ []) $ heard ! ((ws .0 ≡ counted h n) × (c ≡ judged n)) (λ e. fsplit ! $ move ! (2 ∷ []) $ split ! $ move ! (1 ∷ []) $
+        ⊛ raw (fact 𝓤 (Counts h n (ws .0) c)))) (id⊢ 𝓤 _) $ pick ! (λ ws.
+        split ! $ move ! (1 ∷ []) $ heard ! (Counts h n (ws .0) c) (λ e. fsplit ! $ move ! (2 ∷ []) $ split ! $ move ! (1 ∷ []) $
         peeks ! D.the-row (Is D.the-row) (shows 𝓤 H A D.the-row) c (u ∷ []) (λ isc. drop ! $
         -- [the token; the last value; …; the lender's part; _6; …; _5; …; room for _4; …]
         land ! (from ! (stop !)) (init ! 8 refl (EL.lawful D.the-type D′.the-laws 𝓤 H A W tt .typed c _ isc .0)) $
@@ -161,7 +161,7 @@ module _ {M : Type 1} (𝓤 : URA M) (H : Heap 𝓤) (A : Atoms 𝓤) (W : Given
         forget ! 14 refl $
         move ! (14 ∷ 15 ∷ []) $ free1 ! $ move ! (12 ∷ 13 ∷ []) $ free1 ! $ move ! (10 ∷ 11 ∷ []) $ free1 ! $ move ! (0 ∷ 9 ∷ []) $ free1 ! $
         move ! (6 ∷ 7 ∷ []) $ free1 ! $ move ! (4 ∷ 5 ∷ []) $ free1 ! $ move ! (2 ∷ 3 ∷ []) $ free1 ! $ free0 ! $
-        keep ! (0 ∷ []) $ by ! (exits (ws .0) c v u (e .0) (e .1) ist isc)))))))))))))))))
+        keep ! (0 ∷ []) $ by ! (exits (ws .0) c v u e ist isc)))))))))))))))))
 
 module _ {M : Type 1} (𝓤 : URA M) (H : Heap 𝓤) (A : Atoms 𝓤) (W : Given 𝓤 H A) (at-mem : Memory → SProp 𝓤) (run : Routine → Fun 𝓤) where
   count-owned-walks : (C : Calls 𝓤 H) (Λ : Loops 𝓤 H) → FmC 𝓤 H (W .laws) C → Triple 𝓤 (C #answers·count) (Count 𝓤 H A at-mem run)

@@ -1,6 +1,5 @@
 -- The number of what the call answered. Assumes nothing.
-use mathlib.Core.Path.{ap, _∙_}
-use Rattle.answers.specs.Numbers.{answerNumber}
+use mathlib.Core.Path.{_∙_}
 use native.Mathlib.Omega.{arith}
 use borrow.Author.Needs.{needs}
 use Rattle.bench.proofs.bench_decide.Statement.{statement}
@@ -11,7 +10,7 @@ use Rattle.answers.proofs.answer_number.Reads as answer-number-reads
 use Rattle.decision.proofs.is_access_allowed.Reads as is-access-allowed-reads
 
 returns : tie.Need-returns
-returns c = c .answer-number .ensures ∙ ap answerNumber (c .before .is-access-allowed .ensures)
+returns c = c .answer-number .ensures ∙ c .before .is-access-allowed .ensures .number-is
 
 pub bench-decide-spec : {M : Type 1} → statement M
 bench-decide-spec =

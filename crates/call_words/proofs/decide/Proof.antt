@@ -4,6 +4,7 @@ use native.Mathlib.Omega.{arith}
 use borrow.Author.Needs.{needs}
 use Rattle.image.specs.Store.{held}
 use Rattle.decision_steps.specs.Decision.{answer}
+use Rattle.decision.proofs.Answers.{decides}
 use Rattle.edits.specs.Does.{decided, asks}
 use Rattle.line_fields.proofs.RequestSlots.{same-request}
 use Rattle.call_words.proofs.decide.Statement.{statement}
@@ -39,10 +40,11 @@ returns c = let a = c .before in
       reply = decided (a .is-access-allowed .result);
       does =
           asks
-          (a .is-access-allowed .ensures
+          (decides _ _
+          (a .is-access-allowed .ensures .answer-is
           ∙ ap (answer (held (m .before .before .before .before .before .args .store .now)))
           (same-request (m .number-in .ensures) (n .octets-in .ensures) (l .number-in2 .ensures) (k .number-in3 .ensures) (x .octets-in2 .ensures)
-          (v .identifier-in .ensures)));
+          (v .identifier-in .ensures))));
       number-is = c .answer-number .ensures;
     }
 

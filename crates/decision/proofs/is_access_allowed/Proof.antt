@@ -38,7 +38,7 @@ returns-2 : tie.Need-returns-2
 returns-2 c =
     let k = c .before in
     let s = start (k .before .before .before) in
-    c .answer-request .ensures ∙ answer-laid (s .args .store .now) (request s) (laid k)
+    answer-laid (s .args .store .now) (request s) (c .answer-request .ensures) (laid k)
 
 pub is-access-allowed-spec : {M : Type 1} → statement M
 is-access-allowed-spec =

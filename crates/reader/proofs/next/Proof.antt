@@ -150,7 +150,7 @@ module _ {M : Type 1} (𝓤 : URA M) (H : Heap 𝓤) (A : Atoms 𝓤) (W : Given
       qed W (‵ (fobs γ (B .coded .code (moved (r .at)))) ∷ ‵ (fbor κ (Body (mem B) b o γ)) ∷ ‵ (flft κ q) ∷ (‵ (flft κ′ q′) ⊛ ‵ ftrue) ∷ []) ∵
       suffices ! _ (ends-at 𝓤 H A next.ended stayed (next.clauses 𝓤 H A at-mem run) W (((κ, (κ′, tt)), (q, (q′, tt)), bounds, x, vals), tt)
       (P′.lowered (r .part)) (r .part) (moved (r .at), tt) (tt, tt)) $
-      says ! (ap (λ (s : Step). s .part) e, ap (λ (s : Step). moved (s .at)) e) $ move ! (2 ∷ 3 ∷ []) $ join ! $ frame ! $
+      says ! (record { part-is = ap (λ (s : Step). s .part) e; reader-is = ap (λ (s : Step). moved (s .at)) e }) $ move ! (2 ∷ 3 ∷ []) $ join ! $ frame ! $
       feqI ! (List Val) (vptr b o ∷ []) (vptr b o ∷ []) refl $ fjoin3 ! $ nothing ! $ move ! (1 ∷ 0 ∷ []) $ fjoin ! $
       owned ! P.the-row (Is P.the-row) ((EL.makes P.the-type P′.the-plain) 𝓤 H A) (r .part) _ is $ move ! (1 ∷ 0 ∷ []) $ done !
 

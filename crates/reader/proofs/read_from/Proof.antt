@@ -110,7 +110,7 @@ module _ {M : Type 1} (𝓤 : URA M) (H : Heap 𝓤) (A : Atoms 𝓤) (W : Given
 
   -- the reader that is made, and the reader that has moved on
   abbrev h₀ : Reader
-  h₀ = record { parts = s; at = n }
+  h₀ = spec.readerAt s n
 
   abbrev h₁ : Reader
   h₁ = spec.movedOn h₀
@@ -137,8 +137,8 @@ module _ {M : Type 1} (𝓤 : URA M) (H : Heap 𝓤) (A : Atoms 𝓤) (W : Given
       move ! (1 ∷ 0 ∷ []) $ fjoin ! $ move ! (1 ∷ 0 ∷ []) $ join ! $ frame ! $ done !
 
   new-said : (r : Reader)
-      → ent 𝓤 (ensured 𝓤 H A new.ended (new.clauses 𝓤 H A at-mem run) (κ, tt) (s, (n, tt)) tt r) (fact 𝓤 ((r .parts ≡ s) × (r .at ≡ n)))
-  new-said r = exE 𝓤 _ (λ ws. snd∗ 𝓤 (sem 𝓤 H A (lasts new.ended (κ, tt) (s, (n, tt)) ws)) (fact 𝓤 ((r .parts ≡ s) × (r .at ≡ n))))
+      → ent 𝓤 (ensured 𝓤 H A new.ended (new.clauses 𝓤 H A at-mem run) (κ, tt) (s, (n, tt)) tt r) (fact 𝓤 (r ≡ spec.readerAt s n))
+  new-said r = exE 𝓤 _ (λ ws. snd∗ 𝓤 (sem 𝓤 H A (lasts new.ended (κ, tt) (s, (n, tt)) ws)) (fact 𝓤 (r ≡ spec.readerAt s n)))
 
   -- ---- the call of `next`: the local at l is lent for the meet of ν and κ, under the name γ
   abbrev lent : ℕ → GName → RefT Reader
@@ -201,9 +201,9 @@ module _ {M : Type 1} (𝓤 : URA M) (H : Heap 𝓤) (A : Atoms 𝓤) (W : Given
         (and-then ! (load ! (from ! (stop !)) (look ! 17 refl)) (and-then ! (load ! (from ! (stop !)) (look ! 15 refl)) (no-more !))) (λ u₀.
         use1 W (later (some (λ (r : Reader). ((‵ (flft κ q) ⊛ ‵ ftrue) ⊛ ‵ (B .own r (u₀ ∷ [])))
         ⊛ raw (ensured 𝓤 H A new.ended (new.clauses 𝓤 H A at-mem run) (κ, tt) (s, (n, tt)) tt r)))) (id⊢ 𝓤 _) $ await ! tt $ pick ! (λ r.
-        split ! $ move ! (1 ∷ []) $ use1 W (raw (fact 𝓤 ((r .parts ≡ s) × (r .at ≡ n)))) (new-said r) $
-        heard ! ((r .parts ≡ s) × (r .at ≡ n)) (λ e. split ! $
-        rewrite ! 1 (λ (h : Reader). ‵ (B .own h (u₀ ∷ []))) (λ i. record { parts = e .0 i; at = e .1 i }) refl $ move ! (1 ∷ []) $
+        split ! $ move ! (1 ∷ []) $ use1 W (raw (fact 𝓤 (r ≡ spec.readerAt s n))) (new-said r) $
+        heard ! (r ≡ spec.readerAt s n) (λ e. split ! $
+        rewrite ! 1 (λ (h : Reader). ‵ (B .own h (u₀ ∷ []))) e refl $ move ! (1 ∷ []) $
         peeks ! B (Is B) (shows 𝓤 H A B) h₀ (u₀ ∷ []) (λ is.
         -- [what the reader owns; the token; what the slice owns; …; the locals from _8 down, with room for _5]
         land ! (from ! (stop !)) (init ! 10 refl (typed h₀ u₀ is)) $
@@ -224,8 +224,8 @@ module _ {M : Type 1} (𝓤 : URA M) (H : Heap 𝓤) (A : Atoms 𝓤) (W : Given
         pick ! (λ p.
         split ! $ move ! (1 ∷ []) $
         use1 W (some (λ (ws : Reader × Unit {0}). ‵ (lasts next.ended (ν ∷ κ, (κ, tt)) (lent l₃ γ, tt) ws)
-        ⊛ raw (fact 𝓤 ((p ≡ spec.partAt (now s) n) × (ws .0 ≡ h₁))))) (id⊢ 𝓤 _) $ pick ! (λ ws.
-        split ! $ move ! (1 ∷ []) $ heard ! ((p ≡ spec.partAt (now s) n) × (ws .0 ≡ h₁)) (λ e₁. fsplit ! $ move ! (2 ∷ []) $ split ! $
+        ⊛ raw (fact 𝓤 (spec.ReadsOn h₀ (ws .0) p)))) (id⊢ 𝓤 _) $ pick ! (λ ws.
+        split ! $ move ! (1 ∷ []) $ heard ! (spec.ReadsOn h₀ (ws .0) p) (λ e₁. fsplit ! $ move ! (2 ∷ []) $ split ! $
         move ! (1 ∷ []) $
         peeks ! P.the-row (Is P.the-row) (shows 𝓤 H A P.the-row) p (u ∷ []) (λ isp. drop ! $
         -- [the tokens; the last value; …; the way back; the lender's part; what the slice owns; …; the locals from _8 down, with room for _4]
@@ -235,7 +235,7 @@ module _ {M : Type 1} (𝓤 : URA M) (H : Heap 𝓤) (A : Atoms 𝓤) (W : Given
         lft-end ! tt $
         use1 W (‵ (fdead (ν ∷ κ))) (W .lfts .dead-incl (ν ∷ κ) (ν ∷ []) (loan.ends-with ν κ)) $
         move ! (0 ∷ 4 ∷ 2 ∷ []) $ use3 W (later (‵ (partAt B fullShare (ws .0) l₃ 0))) (ref-back 𝓤 H A W B (ν ∷ κ) γ (ws .0) l₃ 0) $ await ! tt $
-        rewrite ! 0 (λ (h : Reader). ‵ (partAt B fullShare h l₃ 0)) (e₁ .1) refl $
+        rewrite ! 0 (λ (h : Reader). ‵ (partAt B fullShare h l₃ 0)) (e₁ .reader-is) refl $
         use1 W (some (λ (z : Val). ‵ (fat fullShare (T′.mir erased) l₃ 0 z) ⊛ ‵ (B .own h₁ (z ∷ []))))
         (part-out-at 𝓤 H A W B refl fullShare h₁ l₃ 0 (T′.mir erased) refl) $ pick ! (λ z.
         split ! $ move ! (1 ∷ []) $ peeks ! B (Is B) (shows 𝓤 H A B) h₁ (z ∷ []) (λ isz.
@@ -266,7 +266,7 @@ module _ {M : Type 1} (𝓤 : URA M) (H : Heap 𝓤) (A : Atoms 𝓤) (W : Given
         move ! (20 ∷ 21 ∷ []) $ free1 ! $ move ! (18 ∷ 19 ∷ []) $ free1 ! $ move ! (16 ∷ 17 ∷ []) $ free1 ! $ move ! (1 ∷ 15 ∷ []) $ free1 ! $
         move ! (12 ∷ 13 ∷ []) $ free1 ! $
         move ! (10 ∷ 11 ∷ []) $ free1 ! $ move ! (8 ∷ 9 ∷ []) $ free1 ! $ move ! (6 ∷ 7 ∷ []) $ free1 ! $ move ! (4 ∷ 5 ∷ []) $ free1 ! $ free0 ! $
-        keep ! (0 ∷ 2 ∷ []) $ by ! (exits p m u w (e₁ .0) e₂ isp (typed h₁ _ is₁ .1 .1 .0 .fits) ism))))))))))))))))))))))))))))
+        keep ! (0 ∷ 2 ∷ []) $ by ! (exits p m u w (e₁ .part-is) e₂ isp (typed h₁ _ is₁ .1 .1 .0 .fits) ism))))))))))))))))))))))))))))
 
 module _ {M : Type 1} (𝓤 : URA M) (H : Heap 𝓤) (A : Atoms 𝓤) (W : Given 𝓤 H A) (at-mem : Memory → SProp 𝓤) (run : Routine → Fun 𝓤) where
   read-from-walks : (C : Calls 𝓤 H) (Λ : Loops 𝓤 H) → FmC 𝓤 H (W .laws) C

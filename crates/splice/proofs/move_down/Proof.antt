@@ -42,7 +42,7 @@ returns c =
     let e : l .j ≡ s .end = omega arith in
     l .inv .2
     ∙ ap (λ (n : ℕ). moved (b .last .0) (b .result) n (b .result - s .by)) e
-    ∙ moved-back _ _ (s .from) (b .result) (s .end) (s .by) (b .ensures .2) (omega arith) (omega arith) (omega arith) (omega arith)
+    ∙ moved-back _ _ (s .from) (b .result) (s .end) (s .by) (b .ensures .1 .1) (omega arith) (omega arith) (omega arith) (omega arith)
 
 pub move-down-spec : {M : Type 1} → statement M
 move-down-spec =

@@ -43,7 +43,7 @@ returns c =
     let e : l .j ≡ s .from = omega arith in
     l .inv .2
     ∙ ap (λ (n : ℕ). moved (b .last .0) n (b .result) (n + s .by)) e
-    ∙ moved-front _ _ (s .from) (b .result) (b .result) (s .end) (s .by) (b .ensures .2) (omega arith) (omega arith) (omega arith) (omega arith)
+    ∙ moved-front _ _ (s .from) (b .result) (b .result) (s .end) (s .by) (b .ensures .1 .1) (omega arith) (omega arith) (omega arith) (omega arith)
 
 pub move-up-spec : {M : Type 1} → statement M
 move-up-spec =

@@ -11,7 +11,7 @@ returns c =
     let start = moved .before .before .before .before in
     let s = start .args in
     rw (c .before .before .copy-in .ensures, moved .shift .ensures)
-    (paste-moved (s .w .now) (s .at) (s .gone) (s .end) (s .new .now) (start .pre .0) (start .pre .1) (start .pre .2))
+    (paste-moved (s .w .now) (s .at) (s .gone) (s .end) (s .new .now) (start .pre .0) (start .pre .1 .0) (start .pre .1 .1))
 
 pub splice-spec : {M : Type 1} → statement M
 splice-spec =

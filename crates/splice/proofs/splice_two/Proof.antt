@@ -26,9 +26,9 @@ both-placed c =
     let s = start .args in
     let p = start .pre in
     ⊎-elim
-    (λ a. behind-first (s .w .now) (s .place) (s .had) (s .head .now) (s .at) (s .gone) (s .end) (s .new .now) (p .0) (p .1) (p .2) (p .3)
+    (λ a. behind-first (s .w .now) (s .place) (s .had) (s .head .now) (s .at) (s .gone) (s .end) (s .new .now) (p .0) (p .1 .0) (p .1 .1 .0) (p .1 .1 .1)
     (a .2 .last .0) (c .if1 .w) (omega (arith, a .0 .taken)) (a .2 .kept .0) (a .2 .ensures) (a .9 ∙ a .6 .ensures))
-    (λ a. between-first (s .w .now) (s .place) (s .had) (s .head .now) (s .at) (s .gone) (s .end) (s .new .now) (p .0) (p .1) (p .2) (p .3)
+    (λ a. between-first (s .w .now) (s .place) (s .had) (s .head .now) (s .at) (s .gone) (s .end) (s .new .now) (p .0) (p .1 .0) (p .1 .1 .0) (p .1 .1 .1)
     (a .2 .last .0) (c .if1 .w) (omega (arith, a .0 .left)) (a .2 .kept .0) (a .2 .ensures) (a .9 ∙ a .6 .ensures))
     (c .if1 .came)
 

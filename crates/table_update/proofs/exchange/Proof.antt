@@ -70,7 +70,7 @@ splice-two-requires c κs =
     let r = at2 l .before .before .before .pre .1 .row-fits in
     let d = l .before .one-if .ensures in
     let n = length-take (2 * l .one-if2 .result - 0) (length (a .row .now) / 256 ∷ length (a .row .now) % 256 ∷ []) in
-    (omega arith, omega arith, omega arith, omega (arith, most l))
+    (omega arith, (omega arith, (omega arith, omega (arith, most l))))
 
 -- the count's octet is one of the counts'
 low : (c : tie.After-position-of) → 2 * c .position-of .result + 1 < countsSize

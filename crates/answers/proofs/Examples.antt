@@ -1,4 +1,4 @@
--- The answers of document 01's P1 to P9, counted from a fresh tally and from one whose counts are all at their last value. Assumes nothing.
+-- The counts compute: the answers of document 01's P1 to P9, counted from a fresh tally and from one whose counts are all at their last value. Assumes nothing.
 use mathlib.Core.Path.{_≡_, refl}
 use mathlib.Core.List.{List, [], _∷_}
 use Prim.Native.Nat.{ℕ}
