@@ -26,7 +26,7 @@ use Rattle.call_words.specs.Calls.{kindsOf, Asked, calls, encodes, decod
 use Rattle.call_words.specs.Reading.{editIn, askedIn, ReadsCall}
 
 -- no word has more fields than slots
-pub kinds-few : (v : Verb) → length (kindsOf v) ≤ 8
+pub kinds-few : (v : Verb) → length (kindsOf v) ≤ 6
 kinds-few Decide = omega arith
 kinds-few Owner = omega arith
 kinds-few Principal = omega arith

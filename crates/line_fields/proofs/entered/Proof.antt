@@ -1,4 +1,4 @@
--- `line_fields::entered` meets its contract: the bytes of the row or the key stand behind what the buffer holds. Assumes nothing.
+-- `line_fields::entered` meets its contract: the bytes of the row or the key lie where words from `at` on may put them. Assumes nothing.
 use mathlib.Core.Path.{_≡_, ap, _∙_}
 use borrow.Author.Needs.{needs}
 use Rattle.line_fields.specs.Kinds.{entered}
@@ -18,5 +18,5 @@ returns-2 c = let e = c .before .before .before .before .before in
 pub entered-spec : {M : Type 1} → statement M
 entered-spec =
     tie.close
-    (tie.spec (λ c κs. search needs) (λ c. search needs) (λ c. search needs) (λ c. search needs) returns (λ c. search needs)
-    returns-2)
+    (tie.spec (λ c. search needs) (λ c κs. search needs) (λ c. search needs) (λ c. search needs) (λ c. search needs) returns
+    (λ c. search needs) returns-2)
