@@ -6,10 +6,9 @@ use mathlib.Core.Option.{Option}
 use Prim.Native.Nat.{ℕ, _+_, _-_, _≤_}
 use native.Mathlib.Omega.{arith}
 use lib.ListN.{length, take, drop, length-append, length-drop}
-use lib.Seq.{length-take-le, take-at}
+use lib.Seq.{length-take-le, take-at, take-append-le, take-append-add}
 use Rattle.answers.specs.declared.Fault.{Fault}
 use Rattle.answers.specs.Numbers.{faultNumber}
-use Rattle.text_fields.proofs.Buffers.{back, back-front}
 use Rattle.text_values.specs.Texts.{decimalText, Puts}
 use Rattle.numbers.specs.Laid.{laid}
 use Rattle.text_values.proofs.Digits.{length-decimal}
@@ -18,6 +17,17 @@ use Rattle.call_words.specs.Calls.{Asked}
 use Rattle.call_answers.specs.Answers.{answerRoom, faultText, Shows}
 use Rattle.call_answers.proofs.Shown.{shown}
 use Rattle.call_lines.specs.Plays.{Plays, lineRoom, faultRoom, lineText, ShowsLine}
+
+-- w, of which the part from k on was lent and came back as b
+abbrev back : ℕ → ℕ → List ℕ → List ℕ → List ℕ
+back k j b w = take k w ++ (b ++ drop j (drop k w))
+
+back-front : (k m j : ℕ) (b w : List ℕ) → k ≤ length w → m ≤ length b → take (k + m) (back k j b w) ≡ take k w ++ take m b
+back-front k m j b w h i =
+    let l : length (take k w) ≡ k = length-take-le k w h in
+    ap (λ n. take (n + m) (back k j b w)) (sym l)
+    ∙ take-append-add (take k w) (b ++ drop j (drop k w)) m
+    ∙ ap (λ u. take k w ++ u) (take-append-le m b (drop j (drop k w)) i)
 
 pub number-fits : (number : ℕ) (out : List ℕ) → lineRoom ≤ length out → 0 + length (decimalText number) ≤ length out
 number-fits number out h = omega (arith, length-decimal number)

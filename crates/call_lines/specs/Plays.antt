@@ -13,7 +13,7 @@ use Rattle.rows.specs.declared.Table.{Table}
 use Rattle.instance_decode.specs.Decoding.{readInstance}
 use Rattle.edits.specs.Does.{Call, Reply, replyNumber, Does}
 use Rattle.text_values.specs.Texts.{decimalText}
-use Rattle.line_fields.specs.declared.Slot.{Slot}
+use Rattle.text_rows.specs.declared.Slot.{Slot}
 use Rattle.line_fields.specs.Slots.{slotIn, partIn, numberIn}
 use Rattle.call_words.specs.Calls.{Asked, calls, encodes, decodes, images}
 use Rattle.call_answers.specs.Answers.{parts, faultText, encodedText, decodedText, imageTextOf, answerRoom, Shows}

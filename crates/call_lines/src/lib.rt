@@ -4,7 +4,7 @@ use call_answers::ANSWER_ROOM;
 use call_words::Verb;
 use line_fields::LINE_ROOM;
 use line_fields::MOST_FIELDS;
-use line_fields::Slot;
+use text_rows::Slot;
 ghost use mathlib.Core.Path.{_≡_};
 ghost use Prim.Native.Nat.{_≤_};
 ghost use lib.ListN.{length};

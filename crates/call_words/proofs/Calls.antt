@@ -15,7 +15,7 @@ use Rattle.edits.specs.Does.{ask, owner, by}
 use Rattle.text_words.specs.Words.{longest, between, words, wordsFrom}
 use Rattle.text_words.proofs.WordsFrom.{WordAt, from-start}
 use Rattle.line_fields.specs.declared.Kind.{Kind}
-use Rattle.line_fields.specs.declared.Slot.{Slot}
+use Rattle.text_rows.specs.declared.Slot.{Slot}
 use Rattle.line_fields.specs.Kinds.{Value, valueAt, partsAt, numberAt, editAt, valuesSaid}
 use Rattle.line_fields.specs.Slots.{side, inParts, kindIn, slotIn, partIn, numberIn, valueIn, Holds, Fit, Whole}
 use Rattle.line_fields.proofs.RequestSlots.{request-held}

@@ -2,7 +2,7 @@
 use line_fields::Kind;
 use line_fields::MOST_FIELDS;
 use line_fields::REQUEST_FIELDS;
-use line_fields::Slot;
+use text_rows::Slot;
 use text_words::LONGEST_LINE;
 ghost use mathlib.Core.Path.{_≡_};
 ghost use lib.ListN.{length};

@@ -12,14 +12,15 @@ use lib.ListN.{length, take, drop, set, length-append, drop-of-length-le, List·
 use lib.Seq.{length-take-le, drop-cons, getD-set-same, getD-set-other, getD-at, getD-take}
 use borrow.Author.Tests.{ltb-true, ltb-false}
 use Rattle.numbers.proofs.Bools.{split as by}
-use Rattle.text_words.specs.Words.{wordsFrom}
+use Rattle.text_words.specs.Words.{between, wordsFrom}
+use Rattle.text_words.proofs.Kept.{kept-less, laid-kept, laid-between}
 use Rattle.text_words.proofs.WordsFrom.{none-from, word-over}
 use Rattle.line_fields.specs.declared.Kind.{Kind}
 use Rattle.line_fields.specs.declared.Kind.the-variants.{Number}
-use Rattle.line_fields.specs.declared.Slot.{Slot}
-use Rattle.line_fields.specs.declared.Found.the-variants.{At}
-use Rattle.line_fields.specs.Kinds.{Value, valueAt, plain, Taken, taken, kindSaid, valuesSaid}
-use Rattle.line_fields.specs.Slots.{inParts, side, kindIn, slotIn, valueIn, plainSlot, Within, Adds, Lent, ReadsFields}
+use Rattle.text_rows.specs.declared.Slot.{Slot}
+use Rattle.text_rows.specs.declared.Found.the-variants.{At}
+use Rattle.line_fields.specs.Kinds.{Value, valueOf, valueAt, plain, Taken, taken, kindSaid, valuesSaid}
+use Rattle.line_fields.specs.Slots.{inParts, side, kindIn, slotIn, valueIn, plainSlot, Within, Lies, Adds, Lent, ReadsFields}
 use Rattle.line_fields.proofs.Fronts.{between-kept}
 
 -- ---- the kinds left, by their places
@@ -32,14 +33,26 @@ kinds-here ks n i h l =
 pub kinds-gone : (ks : List Kind) (n i : ℕ) → n ≤ i → n ≤ length ks → drop i (take n ks) ≡ []
 kinds-gone ks n i h l = let m : length (take n ks) ≤ i = omega (arith, length-take-le n ks l) in drop-of-length-le (take n ks) m
 
--- ---- one field more: in both buffers, what lies before it stays
+-- ---- one field more: its value, and in both buffers what lies before it stays
 
-pub adds-kept : (b : Bool) {s : Slot} {next at : ℕ} {line bytes bytes' parts parts' : List ℕ} {said : Option Taken}
+module _ {s : Slot} {next at : ℕ} {line found out : List ℕ} {said : Option Taken} (l : Lies s next at line found out said) where
+  lies-value : said ≡ some (taken (valueIn s out) (wordsFrom next line))
+  lies-value =
+      let e : between (s .from) (s .end) out ≡ l .of =
+      ap (between (s .from) (s .end)) (l .lays) ∙ laid-between (s .from) (s .end) (l .of) found (l .ends) (omega (arith, l .ends, l .inside)) in
+      l .is ∙ ap (λ x. some (taken (valueOf (s .operation) (s .table) x) (wordsFrom next line))) (sym e)
+
+  lies-kept : take (4 * at) out ≡ take (4 * at) found
+  lies-kept =
+      kept-less (4 * at) (s .from) out found (l .begins)
+      (ap (take (s .from)) (l .lays) ∙ laid-kept (s .from) (l .of) found (omega (arith, l .ends, l .inside)))
+
+adds-kept : (b : Bool) {s : Slot} {next at : ℕ} {line bytes bytes' parts parts' : List ℕ} {said : Option Taken}
     → Adds b (At s next) at line bytes bytes' parts parts' said → (c : Bool) → take (4 * at) (side c bytes' parts') ≡ take (4 * at) (side c bytes parts)
-adds-kept true a true = a .finds .kept
+adds-kept true a true = lies-kept (a .finds)
 adds-kept true {at = at} a false = ap (take (4 * at)) (a .other)
 adds-kept false {at = at} a true = ap (take (4 * at)) (a .other)
-adds-kept false a false = a .finds .kept
+adds-kept false a false = lies-kept (a .finds)
 
 -- ---- what a slot holds, as long as what lies before a place stays
 
@@ -116,7 +129,7 @@ module _ {all : Option (List Value)} {line : List ℕ} {kinds : List Kind} {slot
       value-new = getD-at (y .done) new [] (plain []) i (y .count)
 
       holds-new : Held (slotIn (set slots i s) i) (valueAt i (y .done ++ (new ∷ []))) (side (inParts (kindIn kinds i)) bytes' parts') (4 * next)
-      holds-new = rw (slot-new, value-new) (record { is = refl; within = record { forward = a .finds .forward; inside = a .finds .ends } })
+      holds-new = rw (slot-new, value-new) (record { is = refl; within = record { forward = omega (arith, a .finds .ends); inside = a .finds .short } })
 
       holds-old : (j : ℕ) → j < i
           → Held (slotIn (set slots i s) j) (valueAt j (y .done ++ (new ∷ []))) (side (inParts (kindIn kinds j)) bytes' parts') (4 * next)
@@ -124,7 +137,7 @@ module _ {all : Option (List Value)} {line : List ℕ} {kinds : List Kind} {slot
           let d : slotIn (set slots i s) j ≡ slotIn slots j = getD-set-other slots i j s (plainSlot 0 0) (λ e. omega arith) in
           let e : valueAt j (y .done ++ (new ∷ [])) ≡ valueAt j (y .done) =
           List·getD-append (y .done) (new ∷ []) (plain []) j (omega (arith, y .count)) in
-          let m : 4 * at ≤ 4 * next = omega (arith, a .finds .begins, a .finds .forward, a .finds .ends) in
+          let m : 4 * at ≤ 4 * next = omega (arith, a .finds .begins, a .finds .ends, a .finds .short) in
           rw (d, e) (held-kept (y .holds j l) (adds-kept (inParts (kindIn kinds i)) a (inParts (kindIn kinds j))) m)
 
       pub way-next : OnWay all line kinds (set slots i s) bytes' parts' (i + 1) next left
@@ -132,7 +145,7 @@ module _ {all : Option (List Value)} {line : List ℕ} {kinds : List Kind} {slot
       way-next = record {
         done = y .done ++ (new ∷ []);
         count = length-append (y .done) (new ∷ []) ∙ omega (arith, y .count);
-        makes = y .makes ∙ rw (a .finds .is) (before-next (y .done) new (valuesSaid left (wordsFrom next line)));
+        makes = y .makes ∙ rw (lies-value (a .finds)) (before-next (y .done) new (valuesSaid left (wordsFrom next line)));
         lent =
             record {
               line-short = y .lent .line-short;

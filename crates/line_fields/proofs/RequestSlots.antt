@@ -7,7 +7,7 @@ use native.Mathlib.Omega.{arith}
 use lib.ListN.{length, getD}
 use Rattle.decision_steps.specs.Request.{Request, asked}
 use Rattle.line_fields.specs.declared.Kind.{Kind}
-use Rattle.line_fields.specs.declared.Slot.{Slot}
+use Rattle.text_rows.specs.declared.Slot.{Slot}
 use Rattle.line_fields.specs.Kinds.{Value, valueAt, valuesSaid}
 use Rattle.line_fields.specs.Requests.{requestKinds, requestOf, requestIn, request}
 use Rattle.line_fields.specs.Slots.{side, inParts, kindIn, slotIn, Holds, Kinds, Lists, Whole, Fit}

@@ -7,12 +7,13 @@ use Prim.Native.Nat.{ℕ, suc, _+_, _*_, _≤_, _<_}
 use lib.ListN.{length, take, getD, replicate}
 use Rattle.rows.specs.declared.Operation.the-variants.{Put}
 use Rattle.rows.specs.declared.Table.the-variants.{Context}
-use Rattle.text_words.specs.Words.{longest, between, wordsFrom}
+use Rattle.numbers.specs.Laid.{laid}
+use Rattle.text_words.specs.Words.{longest, between, wordsFrom, Unfilled}
 use Rattle.text_words.specs.declared.Filled.{Filled}
+use Rattle.text_rows.specs.declared.Slot.{Slot}
+use Rattle.text_rows.specs.declared.Found.{Found}
 use Rattle.line_fields.specs.declared.Kind.{Kind}
 use Rattle.line_fields.specs.declared.Kind.the-variants.{Number, Name, Identifier, Key, Edit}
-use Rattle.line_fields.specs.declared.Slot.{Slot}
-use Rattle.line_fields.specs.declared.Found.{Found}
 use Rattle.line_fields.specs.declared.Fields.{Fields}
 use Rattle.line_fields.specs.Kinds.{Value, valueOf, valueAt, Taken, taken}
 
@@ -78,18 +79,20 @@ pub record Lent (line : List ℕ) (at : ℕ) (bytes parts : List ℕ) : Type 0 w
   pub bytes-room : lineRoom ≤ length bytes
   pub parts-room : lineRoom ≤ length parts
 
--- it lies where the slot says, behind all that the words before `at` make, and in front of what those from `next` on make; what lies before it stays
+-- its value was laid where the slot says, behind all that the words before `at` make, and in front of what those from `next` on make
 pub record Lies (s : Slot) (next at : ℕ) (line found out : List ℕ) (said : Option Taken) : Type 0 where
-  pub is : said ≡ some (taken (valueIn s out) (wordsFrom next line))
+  pub of : List ℕ
+  pub is : said ≡ some (taken (valueOf (s .operation) (s .table) of) (wordsFrom next line))
+  pub lays : out ≡ laid (s .from) of found
+  pub ends : s .end ≡ s .from + length of
+  pub inside : s .end ≤ length found
   pub begins : 4 * at ≤ s .from
-  pub forward : s .from ≤ s .end
-  pub ends : s .end ≤ 4 * next
-  pub kept : take (4 * at) out ≡ take (4 * at) found
+  pub short : s .end ≤ 4 * next
   pub next-in : next ≤ suc (length line)
 
 abbrev pub Finds : Found → (at : ℕ) (line found out : List ℕ) → Option Taken → Type 0
 Finds (Found.At s next) at line found out said = Lies s next at line found out said
-Finds Found.Malformed at line found out said = said ≡ none
+Finds Found.Malformed at line found out said = Unfilled (4 * at) found out said
 
 -- what one word was read into
 abbrev pub wordFound : Filled → (from next : ℕ) → Found

@@ -2,7 +2,8 @@
 // bytes; a slot for each field says where it lies.
 use rows::Operation;
 use rows::Table;
-use text_rows::Entered;
+use text_rows::Found;
+use text_rows::Slot;
 use text_words::Filled;
 use text_words::LONGEST_LINE;
 use text_words::Number;
@@ -12,8 +13,7 @@ ghost use lib.ListN.{length, take};
 ghost use Prim.Native.Nat.{_*_, _<_};
 ghost use Rattle.text_words.specs.Words.{wordsFrom, Fills};
 ghost use Rattle.text_fields.specs.RowWords.{Roomy};
-ghost use Rattle.text_rows.specs.EntryWords.{entrySaid};
-ghost use Rattle.line_fields.specs.Kinds.{number as Kinds·number, entered as Kinds·entered, edited, kindSaid, valuesSaid};
+ghost use Rattle.line_fields.specs.Kinds.{number as Kinds·number, edited, kindSaid, valuesSaid};
 ghost use Rattle.line_fields.specs.Requests.{requestKinds};
 ghost use Rattle.line_fields.specs.Slots.{numberIn, partIn, noSlots, wordFound, Kinds, Lists, inParts, Within, Finds, Adds, Lent, ReadsFields};
 
@@ -30,20 +30,6 @@ pub enum Kind {
     Identifier,
     Key,
     Edit,
-}
-
-// Where a field lies in its buffer; and its operation and table, where it has them.
-pub struct Slot {
-    pub operation: Operation,
-    pub table: Table,
-    pub from: usize,
-    pub end: usize,
-}
-
-// A field's slot, and where the next word begins.
-pub enum Found {
-    At(Slot, usize),
-    Malformed,
 }
 
 // ---- a field: one whose first word begins at `at` in the line lies in its buffer from `4 * at` on, behind all that words before it make
@@ -78,37 +64,20 @@ fn one_word(filled: Filled, from: usize, next: usize) -> Found
     )
 }
 
-// The row or the key that an operation is handed.
-fn entered(o: Operation, line: &[u8], at: usize, bytes: &mut [u8]) -> Found
-    requires { ⌜ Roomy (now line) at (now bytes) (4 * at) ⌝ }
-    ensures { λ r. ⌜ Finds r at (now (line .entry)) (now (bytes .entry)) (now (bytes .exit)) (Kinds·entered o (entrySaid o (wordsFrom at (now (line .entry))))) ⌝ }
-{
-    let from = 4 * at;
-    let Entered::In(table, end, next) = text_rows::entry(o, line, at, bytes, from) else {
-        return Found::Malformed;
-    };
-    Found::At(
-        Slot {
-            operation: o,
-            table,
-            from,
-            end,
-        },
-        next,
-    )
-}
-
 // What the operation that a word names is handed, from the word that begins at `at` on.
 fn edit(word: &[u8], line: &[u8], at: usize, bytes: &mut [u8]) -> Found
     requires { ⌜ Roomy (now line) at (now bytes) (4 * at) ⌝ }
     ensures { λ r. ⌜ Finds r at (now (line .entry)) (now (bytes .entry)) (now (bytes .exit))
         (edited (now (word .entry)) (wordsFrom at (now (line .entry)))) ⌝ }
 {
-    match text_words::place_of(word, b"put remove") {
-        0 => entered(Operation::Put, line, at, bytes),
-        1 => entered(Operation::Remove, line, at, bytes),
-        _ => Found::Malformed,
-    }
+    let operation = match text_words::place_of(word, b"put remove") {
+        0 => Operation::Put,
+        1 => Operation::Remove,
+        _ => {
+            return Found::Malformed;
+        }
+    };
+    text_rows::entry(operation, line, at, bytes, 4 * at)
 }
 
 // The field of a kind that the words from a place on say.
@@ -127,7 +96,7 @@ fn field(k: Kind, line: &[u8], at: usize, bytes: &mut [u8], parts: &mut [u32]) -
         Kind::Number => one_word(number(word, parts, from), from, next),
         Kind::Name => one_word(text_words::hex_octets(word, bytes, from), from, next),
         Kind::Identifier => one_word(text_words::dotted(word, parts, from), from, next),
-        Kind::Key => entered(Operation::Remove, line, at, bytes),
+        Kind::Key => text_rows::entry(Operation::Remove, line, at, bytes, from),
         Kind::Edit => edit(word, line, next, bytes),
     }
 }

@@ -1,11 +1,14 @@
 -- `line_fields::edit` meets its contract: the word's place among the operations' words is the operation's, which is handed the rest. Assumes nothing.
+use mathlib.Core.Logic.{⊎-elim}
+use mathlib.Core.Option.{some}
 use mathlib.Core.Path.{_≡_, sym, _∙_}
 use native.Mathlib.Omega.{arith}
 use borrow.Author.Needs.{needs}
-use Rattle.text_words.proofs.Named.{wordsOf, named-at, named-none}
 use Rattle.text_words.specs.Words.{split, place}
+use Rattle.text_words.proofs.Named.{wordsOf, named-at, named-none}
+use Rattle.text_words.proofs.Words.{unsaid}
 use Rattle.line_fields.specs.Kinds.{operationWord, operations, operationNamed}
-use Rattle.line_fields.proofs.FieldSlots.{edit-named, edit-other}
+use Rattle.line_fields.proofs.FieldSlots.{entry-finds, edit-named, edit-other}
 use Rattle.line_fields.proofs.edit.Statement.{statement}
 use Rattle.line_fields.proofs.edit.Tie as tie
 
@@ -14,24 +17,24 @@ found : (c : tie.After-place-of) → c .place-of .result ≡ place (c .before .b
 unfolding split
 found c = c .place-of .ensures
 
+-- the operation that the word names
+named : (c : tie.At-match-came) → some (c .match .operation) ≡ operationNamed (c .before .before .before .before .before .before .args .word .now)
+unfolding operationNamed
+named c =
+    ⊎-elim (λ w. rw (w .1) (named-at operationWord _ operations 0 (sym (w .0 .keys1) ∙ found (c .before))))
+    (λ w. rw (w .1) (named-at operationWord _ operations 1 (sym (w .0 .keys2) ∙ found (c .before))))
+    (c .match .came)
+
 returns : tie.Need-returns
 unfolding operationNamed
-returns c = let e = c .before .before in
-    let m = e .before .before in
-    rw (edit-named _ _ (named-at operationWord _ operations 0 (sym (m .match .keys1) ∙ found (m .before)))) (e .entered .ensures)
+returns c = unsaid _ _ (edit-other _ _ (named-none operationWord _ operations (c .before .place-of .result) (found (c .before)) (omega arith)))
 
 returns-2 : tie.Need-returns-2
-unfolding operationNamed
 returns-2 c = let e = c .before .before in
     let m = e .before .before in
-    rw (edit-named _ _ (named-at operationWord _ operations 1 (sym (m .match .keys2) ∙ found (m .before)))) (e .entered2 .ensures)
-
-returns-3 : tie.Need-returns-3
-unfolding operationNamed
-returns-3 c = edit-other _ _ (named-none operationWord _ operations (c .before .place-of .result) (found (c .before)) (omega arith))
+    rw (edit-named _ _ (named m)) (entry-finds (m .match .operation) (e .entry .result) _ _ _ _ (e .entry .ensures))
 
 pub edit-spec : {M : Type 1} → statement M
 edit-spec =
     tie.close
-    (tie.spec (λ c. search needs) (λ c κs. search needs) (λ c κs. search needs) (λ c κs. search needs) (λ c. search needs) returns
-    (λ c. search needs) returns-2 returns-3)
+    (tie.spec (λ c. search needs) (λ c κs. search needs) returns (λ c. search needs) (λ c κs. search needs) (λ c. search needs) returns-2)

@@ -1,14 +1,14 @@
 -- `line_fields::field` meets its contract: in each arm the kind is known, and so are its buffer and what it says. Assumes nothing.
 use mathlib.Core.Bool.{true, false}
 use mathlib.Core.Path.{_≡_, refl, sym, _∙_}
-use Prim.Native.Nat.{_*_, _≤_}
 use native.Mathlib.Omega.{arith}
-use lib.ListN.{length}
 use borrow.Author.Needs.{needs}
+use Rattle.rows.specs.declared.Operation.the-variants.{Remove}
 use Rattle.text_words.specs.Words.{hexOctets, dotted}
+use Rattle.text_words.proofs.Words.{unsaid}
 use Rattle.text_words.proofs.WordsFrom.{WordAt, word-missing, word-found}
 use Rattle.line_fields.specs.Kinds.{number, kindSaid}
-use Rattle.line_fields.proofs.FieldSlots.{bytes-roomy, none-said, word-room, lent-behind, word-finds, edit-finds}
+use Rattle.line_fields.proofs.FieldSlots.{bytes-roomy, none-said, word-room, lent-behind, word-finds, entry-finds, edit-finds}
 use Rattle.line_fields.proofs.field.Statement.{statement}
 use Rattle.line_fields.proofs.field.Tie as tie
 
@@ -19,17 +19,12 @@ start c = c .before .before .before .before .before .before .before
 found : (c : tie.After-known-told) → WordAt (start c .args .at) (start c .args .line .now) (c .before .end .given .0 .0)
 found c = word-found _ _ (sym (c .before .before .before .word-at .ensures) ∙ c .before .end .given .1)
 
-in-bytes : (c : tie.After-known-told) → 4 * start c .args .at ≤ length (start c .args .bytes .now)
-in-bytes c = omega (arith, word-room (found c) false (start c .pre))
-
-in-parts : (c : tie.After-known-told) → 4 * start c .args .at ≤ length (start c .args .parts .now)
-in-parts c = omega (arith, word-room (found c) true (start c .pre))
-
 returns : tie.Need-returns
 returns c = record {
   finds =
-      none-said (c .before .before .before .before .before .before .args .k) _ _
-      (word-missing _ _ (sym (c .before .before .word-at .ensures) ∙ c .enum-told .given .1));
+      unsaid _ _
+      (none-said (c .before .before .before .before .before .before .args .k) _ _
+      (word-missing _ _ (sym (c .before .before .word-at .ensures) ∙ c .enum-told .given .1)));
   other = refl;
 }
 
@@ -54,8 +49,8 @@ hex-octets-requires c κs = let k = c .before .before .before .before in omega (
 dotted-requires : tie.Need-dotted-requires
 dotted-requires c κs = let k = c .before .before .before .before in omega (arith, word-room (found k) true (start k .pre))
 
-entered-requires : tie.Need-entered-requires
-entered-requires c κs = bytes-roomy (start (c .before .before .before .before) .pre)
+entry-requires : tie.Need-entry-requires
+entry-requires c κs = bytes-roomy (start (c .before .before .before .before) .pre)
 
 edit-requires : tie.Need-edit-requires
 edit-requires c κs = let k = c .before .before .before .before in bytes-roomy (lent-behind (found k) (start k .pre))
@@ -65,26 +60,26 @@ unfolding kindSaid
 returns-2 c = let f = c .before .before .before in
     let k = f .before .before .before .before .before in
     rw (f .before .before .enum-told2 .given .1, c .one-word .ensures)
-    (record { finds = word-finds (found k) number (f .number .result) (f .number .ensures) (omega arith) (in-parts k); other = refl })
+    (record { finds = word-finds (found k) number (f .number .result) _ _ (f .number .ensures) (omega arith); other = refl })
 
 returns-3 : tie.Need-returns-3
 unfolding kindSaid
 returns-3 c = let f = c .before .before .before in
     let k = f .before .before .before .before .before in
     rw (f .before .before .enum-told3 .given .1, c .one-word2 .ensures)
-    (record { finds = word-finds (found k) hexOctets (f .hex-octets .result) (f .hex-octets .ensures) (omega arith) (in-bytes k); other = refl })
+    (record { finds = word-finds (found k) hexOctets (f .hex-octets .result) _ _ (f .hex-octets .ensures) (omega arith); other = refl })
 
 returns-4 : tie.Need-returns-4
 unfolding kindSaid
 returns-4 c = let f = c .before .before .before in
     let k = f .before .before .before .before .before in
     rw (f .before .before .enum-told4 .given .1, c .one-word3 .ensures)
-    (record { finds = word-finds (found k) dotted (f .dotted .result) (f .dotted .ensures) (omega arith) (in-parts k); other = refl })
+    (record { finds = word-finds (found k) dotted (f .dotted .result) _ _ (f .dotted .ensures) (omega arith); other = refl })
 
 returns-5 : tie.Need-returns-5
 unfolding kindSaid
 returns-5 c = let f = c .before .before in
-    rw (f .before .before .enum-told5 .given .1) (record { finds = f .entered .ensures; other = refl })
+    rw (f .before .before .enum-told5 .given .1) (record { finds = entry-finds Remove (f .entry .result) _ _ _ _ (f .entry .ensures); other = refl })
 
 returns-6 : tie.Need-returns-6
 unfolding kindSaid
@@ -97,6 +92,6 @@ field-spec =
     tie.close
     (tie.spec (λ c κs. search needs) (λ c. search needs) (λ c. search needs) returns sub-word part-word-start part-word-end (λ c. search needs)
     add-next (λ c. search needs) number-requires (λ c κs. search needs) (λ c. search needs) hex-octets-requires (λ c κs. search needs)
-    (λ c. search needs) dotted-requires (λ c κs. search needs) (λ c. search needs) entered-requires (λ c. search needs) edit-requires
+    (λ c. search needs) dotted-requires (λ c κs. search needs) (λ c. search needs) entry-requires (λ c. search needs) edit-requires
     (λ c. search needs) returns-2 (λ c. search needs) returns-3 (λ c. search needs) returns-4 (λ c. search needs) returns-5
     (λ c. search needs) returns-6)

@@ -2,27 +2,27 @@
 use mathlib.Core.List.{_∷_, []}
 use mathlib.Core.Option.{Option·map}
 use mathlib.Core.Path.{_≡_, ap, _∙_}
-use Prim.Native.Nat.{_+_}
-use native.Mathlib.Numerals.{add-one}
 use native.Mathlib.Omega.{arith}
-use lib.ListN.{length-set}
-use lib.Seq.{take-suc-set}
 use borrow.Author.Needs.{needs}
-use Rattle.text_words.proofs.Words.{number-is, number-bad, unsaid, fills-said}
+use Rattle.numbers.proofs.Laid.{laid-set}
+use Rattle.text_words.proofs.Words.{number-is, number-bad, unsaid}
 use Rattle.line_fields.proofs.number.Statement.{statement}
 use Rattle.line_fields.proofs.number.Tie as tie
 
 returns : tie.Need-returns
-returns c = unsaid _ _ _ _ (ap (Option·map (λ n. n ∷ [])) (number-bad (c .enum-told .given .1) (c .before .before .decimal .ensures)))
+returns c = unsaid _ _ (ap (Option·map (λ n. n ∷ [])) (number-bad (c .enum-told .given .1) (c .before .before .decimal .ensures)))
 
 returns-2 : tie.Need-returns-2
 returns-2 c = let x = c .before .x .given .0 .0 in
     let s = c .before .before .before .before .before .before in
-    let w = s .args .out .now in
-    fills-said _ _ _ _ (s .args .from + 1) (x ∷ [])
-    (ap (Option·map (λ n. n ∷ [])) (number-is x (c .before .x .given .1) (c .before .before .before .decimal .ensures)))
-    (rw (add-one (s .args .from)) (take-suc-set w (s .args .from) x (s .pre)))
-    (omega (arith, length-set w (s .args .from) x, s .pre)) (omega arith)
+    record {
+      of = x ∷ [];
+      is = ap (Option·map (λ n. n ∷ [])) (number-is x (c .before .x .given .1) (c .before .before .before .decimal .ensures));
+      lays = laid-set (s .args .from) x (s .args .out .now) (s .pre);
+      ends = omega arith;
+      inside = omega (arith, s .pre);
+      short = omega arith;
+    }
 
 pub number-spec : {M : Type 1} → statement M
 number-spec =

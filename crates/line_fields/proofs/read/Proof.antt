@@ -59,7 +59,7 @@ same-length-2 c = let f = c .before .before .before .before .before .before in
 
 returns : tie.Need-returns Inv-loop μ-loop
 returns c = let f = c .before .before .before .before .before .before in
-    fields-not _ _ (way-bad (way (f .before .before .before .before)) ((rw (c .enum-told .given .1) at (said f)) .finds))
+    fields-not _ _ (way-bad (way (f .before .before .before .before)) ((rw (c .enum-told .given .1) at (said f)) .finds .is))
 
 loop-again : tie.Need-loop-again Inv-loop μ-loop
 loop-again c = let f = c .before .before .before .before .before .before .before in
