@@ -46,14 +46,7 @@ fn kinds_of(v: Verb) -> [Kind; MOST_FIELDS]
 {
     match v {
         Verb::Decide => line_fields::request_kinds(),
-        Verb::Owner => [
-            Kind::Edit,
-            Kind::Number,
-            Kind::Number,
-            Kind::Number,
-            Kind::Number,
-            Kind::Number,
-        ],
+        Verb::Owner => [Kind::Edit; MOST_FIELDS],
         Verb::Principal => [
             Kind::Number,
             Kind::Name,
@@ -70,14 +63,7 @@ fn kinds_of(v: Verb) -> [Kind; MOST_FIELDS]
             Kind::Number,
             Kind::Number,
         ],
-        Verb::Decode => [
-            Kind::Identifier,
-            Kind::Number,
-            Kind::Number,
-            Kind::Number,
-            Kind::Number,
-            Kind::Number,
-        ],
+        Verb::Decode => [Kind::Identifier; MOST_FIELDS],
         Verb::Image => [Kind::Number; MOST_FIELDS],
         Verb::Unknown => [Kind::Number; MOST_FIELDS],
     }
