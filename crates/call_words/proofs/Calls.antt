@@ -84,7 +84,8 @@ held Owner slots bytes parts values h = ap (λ e. some (calls (owner e))) (same-
 held Principal slots bytes parts values h =
     same-principal (numbered (h 0 (omega arith) .is)) (ap (λ v. v .parts) (h 1 (omega arith) .is)) (numbered (h 2 (omega arith) .is))
     (same-edit (h 3 (omega arith) .is))
-held Encode slots bytes parts values h = same-encoded (ap (λ v. v .table) (h 1 (omega arith) .is)) (numbered (h 0 (omega arith) .is)) (ap (λ v. v .parts) (h 1 (omega arith) .is))
+held Encode slots bytes parts values h =
+    same-encoded (ap (λ v. v .table) (h 1 (omega arith) .is)) (numbered (h 0 (omega arith) .is)) (ap (λ v. v .parts) (h 1 (omega arith) .is))
 held Decode slots bytes parts values h = ap (λ v. some (decodes (v .parts))) (h 0 (omega arith) .is)
 held Image slots bytes parts values h = refl
 held Unknown slots bytes parts values h = refl

@@ -17,7 +17,8 @@ returns : tie.Need-returns
 returns c = let t = c .before .before in
     let o = t .before in
     let n = o .before .before in
-    told-instance (slotIn (n .before .before .before .before .before .before .args .t1) 1 .table) (n .number-in .ensures) (o .octets-in .ensures) (t .tell-encoded .ensures)
+    let s = n .before .before .before .before .before .before in
+    told-instance (slotIn (s .args .t1) 1 .table) (n .number-in .ensures) (o .octets-in .ensures) (t .tell-encoded .ensures)
 
 pub encode-spec : {M : Type 1} → statement M
 encode-spec =

@@ -37,7 +37,8 @@ encode-requires c κs = let e = c .before in
     (rw (e .enum-told4 .given .1) at (s .pre .0), s .pre .1)
 
 identifier-in-requires : tie.Need-identifier-in-requires
-identifier-in-requires c κs = let e = c .before .before in (rw (e .enum-told5 .given .1) at (e .before .before .before .before .before .before .pre .0)) .within 0 (omega arith)
+identifier-in-requires c κs = let e = c .before .before in
+    (rw (e .enum-told5 .given .1) at (e .before .before .before .before .before .before .pre .0)) .within 0 (omega arith)
 
 returns : tie.Need-returns
 returns c = let t = c .before .before in

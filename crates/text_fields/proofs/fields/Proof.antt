@@ -85,7 +85,8 @@ field-requires c κs = let k = c .before .before .before in
     (word-room (way (k .before .before .before .before)) w, omega (arith, word-length w, w .inside, s .pre .1 .line-short))
 
 same-length-2 : tie.Need-same-length-2 Inv-loop μ-loop
-same-length-2 c = let h = c .before .before .before .before in h .field .kept .1 .1 .0 ∙ h .before .before .before .before .before .before .before .before .before .loop .inv .1
+same-length-2 c = let h = c .before .before .before .before in
+    h .field .kept .1 .1 .0 ∙ h .before .before .before .before .before .before .before .before .before .loop .inv .1
 
 returns-2 : tie.Need-returns-2 Inv-loop μ-loop
 returns-2 c = let h = c .before .before .before .before in

@@ -8,8 +8,8 @@ use native.Mathlib.Omega.{arith}
 use lib.ListN.{length, take, drop, length-set}
 use borrow.Author.Needs.{needs}
 use Rattle.text_words.specs.Words.{between, split, decimal, decimals, dotted}
-use Rattle.text_words.proofs.Words.{Reads, reads-start, reads-next, reads-none, reads-end, empty-said, dotted-dash, dotted-some, dots-last, dots-next, dots-bad}
-use Rattle.text_words.proofs.Words.{part-some, number-is, number-bad}
+use Rattle.text_words.proofs.Words.{Reads, reads-start, reads-next, reads-none, reads-end, empty-said}
+use Rattle.text_words.proofs.Words.{dotted-dash, dotted-some, dots-last, dots-next, dots-bad, part-some, number-is, number-bad}
 use Rattle.text_words.proofs.dotted.Statement.{statement}
 use Rattle.text_words.proofs.dotted.Tie as tie
 
@@ -67,7 +67,8 @@ add-n : tie.Need-add-n Inv-loop μ-loop
 add-n c = omega (arith, room c)
 
 add-at : tie.Need-add-at Inv-loop μ-loop
-add-at c = let f = c .before .before .before .before .before in omega (arith, f .end-of .ensures .inside, f .before .before .before .before .before .before .before .good)
+add-at c = let f = c .before .before .before .before .before in
+    omega (arith, f .end-of .ensures .inside, f .before .before .before .before .before .before .before .good)
 
 same-length-2 : tie.Need-same-length-2 Inv-loop μ-loop
 same-length-2 c = let l = c .before .before .before .before .before .before .before .loop in length-set (l .out) (l .n) _ ∙ l .inv .2
@@ -75,7 +76,8 @@ same-length-2 c = let l = c .before .before .before .before .before .before .bef
 returns-3 : tie.Need-returns-3 Inv-loop μ-loop
 returns-3 c = let f = c .before .before .before .before .before .before in
     let l = f .before in
-    let e : f .end-of .result ≡ length (l .before .before .before .before .before .before .args .word .now) = omega (arith, f .end-of .ensures .inside, c .if2 .taken) in
+    let e : f .end-of .result ≡ length (l .before .before .before .before .before .before .args .word .now) =
+    omega (arith, f .end-of .ensures .inside, c .if2 .taken) in
     let g = part-some _ (l .loop .at) (f .end-of .result) _ (part (c .before)) in
     let r = reads-next (l .loop .inv .3) _ (some []) (dots-last _ (l .loop .at) _ (f .end-of .ensures .ends) e) (part (c .before)) (room (c .before)) in
     rw (named (l .before)) (reads-end r refl (omega arith))
@@ -83,7 +85,8 @@ returns-3 c = let f = c .before .before .before .before .before .before in
 loop-again : tie.Need-loop-again Inv-loop μ-loop
 loop-again c = let f = c .before .before .before .before .before .before in
     let l = f .before in
-    let h : f .end-of .result < length (l .before .before .before .before .before .before .args .word .now) = omega (arith, f .end-of .ensures .inside, c .if2 .left) in
+    let h : f .end-of .result < length (l .before .before .before .before .before .before .args .word .now) =
+    omega (arith, f .end-of .ensures .inside, c .if2 .left) in
     let g = part-some _ (l .loop .at) (f .end-of .result) _ (part (c .before)) in (
       omega arith,
       omega arith,

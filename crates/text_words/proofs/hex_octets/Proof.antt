@@ -63,7 +63,8 @@ cast-out c = omega (arith, hexPair-below _ _ _ (octet c))
 loop-again : tie.Need-loop-again Inv-loop μ-loop
 loop-again c = let f = c .before .before .before .before .before .before in
     let l = f .before .before .loop in
-    let h : l .n < length (f .before .before .before .before .before .before .before .before .before .args .out .now) = omega (arith, f .before .before .before .before .before .before .before .before .before .pre) in
+    let s = f .before .before .before .before .before .before .before .before .before in
+    let h : l .n < length (s .args .out .now) = omega (arith, s .pre) in
     let r = reads-next (l .inv .3) _ _ (pairs-next _ (l .i) (omega arith)) (octet c) h in
     (omega arith, omega arith, length-set (l .out) (l .n) _ ∙ l .inv .2, r)
 
