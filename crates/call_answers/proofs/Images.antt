@@ -24,7 +24,7 @@ use Rattle.image_transfer.specs.Transfer.{imageOf, overlaid, writtenOf, bufferO
 use Rattle.image_transfer.proofs.Again.{length-again}
 use Rattle.text_values.specs.Texts.{hexText}
 use Rattle.text_values.proofs.Parts.{length-hex}
-use Rattle.call_answers.specs.Answers.{imageText, faultText, imageTextOf, Room}
+use Rattle.call_answers.specs.Answers.{imageText, faultText, imageTextOf, answerRoom}
 
 held-short : (w : List ℕ) → Octets w → (t : Tables) → held w ≡ some t → length (imageOf t) ≤ room
 unfolding held
@@ -36,28 +36,29 @@ held-short w b t e =
     omega (arith, ap (λ u. length (imageOf u)) z, length-again w b (s .rows-sound) (s .end-in), s .end-in, s .size-is))
     (λ h. let y : none ≡ some t = sym (cond-false _ _ h) ∙ e in absurd (Option·none-ne-some t y))
 
-module _ (w found after : List ℕ) (b : Octets w) (l : length found ≡ room) where
-  pub record Image (n : ℕ) : Type 0 where
-    pub image-room : n ≤ length after
-    pub image-few : length (take (n - 0) after) ≤ room
-    pub text-is : imageText ++ hexText (take (n - 0) after) ≡ imageTextOf (held w)
+-- what was written, and its text
+pub record Image (w after : List ℕ) (n : ℕ) : Type 0 where
+  pub image-room : n ≤ length after
+  pub short : length (imageText ++ hexText (take (n - 0) after)) ≤ answerRoom
+  pub text-is : imageText ++ hexText (take (n - 0) after) ≡ imageTextOf (held w)
 
+module _ (w found after : List ℕ) (b : Octets w) (l : length found ≡ room) where
   module _ (t : Tables) (q : held w ≡ some t) where
     fits : leb (length (imageOf t)) (length found) ≡ true
     fits = le-leb (length (imageOf t)) (length found) (omega (arith, held-short w b t q))
 
-    made : after ≡ overlaid (imageOf t) found → Image (length (imageOf t))
+    made : after ≡ overlaid (imageOf t) found → Image w after (length (imageOf t))
     made a =
         let z : length (imageOf t) - 0 ≡ length (imageOf t) = omega arith in
         let k : take (length (imageOf t) - 0) after ≡ imageOf t =
         rw (z, a) (take-append-seam (imageOf t) (drop (length (imageOf t)) found)) in
         record {
           image-room = omega (arith, ap length a, length-append (imageOf t) (drop (length (imageOf t)) found));
-          image-few = rw k (held-short w b t q);
+          short = rw k (omega (arith, held-short w b t q, length-append imageText (hexText (imageOf t)), length-hex (imageOf t)));
           text-is = rw (k, q);
         }
 
-  wrote : (o : Option Tables) → held w ≡ o → {n : ℕ} → Length n ≡ writtenOf o (length found) → after ≡ bufferOf o found → Image n
+  wrote : (o : Option Tables) → held w ≡ o → {n : ℕ} → Length n ≡ writtenOf o (length found) → after ≡ bufferOf o found → Image w after n
   wrote none q i a = let z : _≡_ {A = ℕ} 0 1 = cc in absurd (omega arith)
   wrote (some t) q {n} i a =
       let f = fits t q in
@@ -70,11 +71,8 @@ module _ (w found after : List ℕ) (b : Octets w) (l : length found ≡ room) w
   refused (some t) q {f} i = let j : Unwritten f ≡ Length (length (imageOf t)) = i ∙ cond-true _ _ (fits t q) in cc
 
   module _ {r : Written} (p : Writes (held w) found after r) where
-    pub image-told : {n : ℕ} → r ≡ Length n → Image n
+    pub image-told : {n : ℕ} → r ≡ Length n → Image w after n
     image-told q = wrote (held w) refl (sym q ∙ p .answer-is) (p .buffer-is)
 
     pub image-refused : {f : Fault} → r ≡ Unwritten f → faultText f ≡ imageTextOf (held w)
     image-refused q = refused (held w) refl (sym q ∙ p .answer-is)
-
-pub hex-fits : (image out : List ℕ) → length image ≤ room → Room out → 0 + length (imageText ++ hexText image) ≤ length out
-hex-fits image out h l = omega (arith, length-append imageText (hexText image), length-hex image)

@@ -32,7 +32,7 @@ use Rattle.text_values.specs.Texts.{decimalText, dotsText, dottedText}
 use Rattle.text_rows.specs.RowText.{keyText}
 use Rattle.text_values.proofs.Digits.{length-decimal}
 use Rattle.text_rows.proofs.TextLength.{length-key}
-use Rattle.call_answers.specs.Answers.{parts, oidText, instanceText, faultText, encodedText, instanceOf, decodedText, Room}
+use Rattle.call_answers.specs.Answers.{parts, oidText, instanceWord, faultText, instanceText, instanceOf, decodedText, answerRoom}
 
 -- ---- an instance encoded
 
@@ -55,6 +55,12 @@ is-length (some f) m q = (cc, cc)
 is-unwritten : (o : Option Fault) (m : ℕ) {f : Fault} → Unwritten f ≡ written o m → o ≡ some f
 is-unwritten none m q = cc
 is-unwritten (some g) m q = cc
+
+-- what was encoded, and its text
+pub record Encoded (t : Table) (column : ℕ) (key after : List ℕ) (n : ℕ) : Type 0 where
+  pub oid-room : n ≤ length after
+  pub short : length (oidText ++ dottedText (take (n - 0) after)) ≤ answerRoom
+  pub text-is : oidText ++ dottedText (take (n - 0) after) ≡ instanceText t column key
 
 module _ (t : Table) (column : ℕ) (key found after : List ℕ) {r : Written} (e : Encodes t column key found after r) (l : length found ≡ parts) where
   whole : List ℕ
@@ -88,25 +94,23 @@ module _ (t : Table) (column : ℕ) (key found after : List ℕ) {r : Written} (
         let z : n - 0 ≡ length whole = omega (arith, sound .1) in
         ap (λ m. take m after) z ∙ ap (take (length whole)) after-is ∙ take-append-seam whole (drop (length whole) found)
 
-    pub oid-room : n ≤ length after
-    oid-room = omega (arith, ap length after-is, length-append whole (drop (length whole) found), sound .1)
-
-    pub encoded-fits : (out : List ℕ) → Room out → 0 + length (oidText ++ dottedText (take (n - 0) after)) ≤ length out
-    encoded-fits out h = rw oid-is (omega (arith, dotted-short whole, few, length-append oidText (dottedText whole)))
-
-    pub encoded-is : oidText ++ dottedText (take (n - 0) after) ≡ encodedText (encodeFault t column key parts) (instance t column (indexOf t key))
+    pub encoded-told : Encoded t column key after n
     unfolding whole
-    encoded-is = rw (sound .0) (ap (λ v. oidText ++ dottedText v) oid-is)
+    encoded-told = record {
+      oid-room = omega (arith, ap length after-is, length-append whole (drop (length whole) found), sound .1);
+      short = rw oid-is (omega (arith, dotted-short whole, few, length-append oidText (dottedText whole)));
+      text-is = rw (sound .0) (ap (λ v. oidText ++ dottedText v) oid-is);
+    }
 
 -- ---- an instance decoded
 
-pub instance-fits : (t : Table) (column : ℕ) (key out : List ℕ) → Octets key → faults (keyFields t) key ≡ none → Room out
-    → 0 + length (instanceOf t column key) ≤ length out
-instance-fits t column key out b h l =
+pub instance-short : (t : Table) (column : ℕ) (key : List ℕ) → Octets key → faults (keyFields t) key ≡ none
+    → length (instanceOf t column key) ≤ answerRoom
+instance-short t column key b h =
     let k : List ℕ = keyText t (values (keyFields t) key) in
     omega (
       arith,
-      length-append instanceText (decimalText column ++ (32 ∷ k)),
+      length-append instanceWord (decimalText column ++ (32 ∷ k)),
       length-append (decimalText column) (32 ∷ k),
       length-decimal column,
       length-key t key b h,
@@ -126,20 +130,20 @@ read-fields oid d e =
     let a = then-some (tableOf oid) (λ t. readColumn t (drop (length (base t)) oid)) e in
     column-fields (a .0) (drop (length (base (a .0))) oid) d (a .1 .1)
 
-module _ (oid found after : List ℕ) where
-  -- what is handed over of a reading
-  pub record Handed (t : Table) (column n : ℕ) : Type 0 where
-    pub key-room : n ≤ length after
-    pub key-sound : faults (keyFields t) (take (n - 0) after) ≡ none
-    pub text-is : instanceOf t column (take (n - 0) after) ≡ decodedText (readInstance oid)
+-- what is handed over of a reading
+pub record Handed (oid after : List ℕ) (t : Table) (column n : ℕ) : Type 0 where
+  pub key-room : n ≤ length after
+  pub key-sound : faults (keyFields t) (take (n - 0) after) ≡ none
+  pub text-is : instanceOf t column (take (n - 0) after) ≡ decodedText (readInstance oid)
 
+module _ (oid found after : List ℕ) where
   module _ (d : Reading) (q : readInstance oid ≡ some d) (b : after ≡ keyBytes d ++ drop (length (keyBytes d)) found) where
     key-is : take (length (keyBytes d) - 0) after ≡ keyBytes d
     key-is =
         let z : length (keyBytes d) - 0 ≡ length (keyBytes d) = omega arith in
         rw (z, b) (take-append-seam (keyBytes d) (drop (length (keyBytes d)) found))
 
-    handed : Handed (d .table) (d .column) (length (keyBytes d))
+    handed : Handed oid after (d .table) (d .column) (length (keyBytes d))
     handed = record {
       key-room = omega (arith, ap length b, length-append (keyBytes d) (drop (length (keyBytes d)) found));
       key-sound = rw key-is (writes-read oid d q .encodable .sound);
@@ -147,7 +151,7 @@ module _ (oid found after : List ℕ) where
     }
 
   delivered : (o : Option Reading) → readInstance oid ≡ o → {t : Table} {column n : ℕ} → Instance t column n ≡ decoded o
-      → after ≡ buffered o found → Handed t column n
+      → after ≡ buffered o found → Handed oid after t column n
   delivered none q i b = let z : _≡_ {A = ℕ} 0 1 = cc in absurd (omega arith)
   delivered (some d) q {t} {column} {n} i b =
       let x : t ≡ d .table = cc in
@@ -160,7 +164,7 @@ module _ (oid found after : List ℕ) where
   undelivered (some d) q = cc
 
   module _ {r : Decoded} (p : Delivers (readInstance oid) found after r) where
-    pub decoded-handed : {t : Table} {column n : ℕ} → r ≡ Instance t column n → Handed t column n
+    pub decoded-handed : {t : Table} {column n : ℕ} → r ≡ Instance t column n → Handed oid after t column n
     decoded-handed q = delivered (readInstance oid) refl (sym q ∙ p .answer-is) (p .buffer-is)
 
     pub decoded-fault : {f : Fault} → r ≡ Faulty f → faultText f ≡ decodedText (readInstance oid)

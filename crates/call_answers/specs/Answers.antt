@@ -1,4 +1,4 @@
--- The text of each answer, and what it is to stand at the front of a lent buffer. Assumes nothing.
+-- The text of each answer, and the room that it takes at most. Assumes nothing.
 use mathlib.Core.Path.{_≡_}
 use mathlib.Core.List.{List, [], _∷_, _++_}
 use mathlib.Core.Option.{Option, none, some}
@@ -10,19 +10,20 @@ use Rattle.answers.specs.Numbers.{faultNumber}
 use Rattle.rows.specs.declared.Table.{Table}
 use Rattle.rows.specs.Tables.{Tables}
 use Rattle.rows.specs.Fields.{values}
-use Rattle.rows.specs.Rows.{keyFields}
+use Rattle.rows.specs.Rows.{keyFields, indexOf}
+use Rattle.instance_encode.specs.Instances.{instance, encodeFault}
 use Rattle.instance_decode.specs.Decoding.{Reading}
 use Rattle.image.specs.Store.{room}
 use Rattle.image_transfer.specs.Transfer.{imageOf}
-use Rattle.text_values.specs.Texts.{decimalText, hexText, dottedText}
+use Rattle.text_values.specs.Texts.{decimalText, hexText, dottedText, Puts}
 use Rattle.text_rows.specs.RowText.{keyText}
 
 -- "oid ", "instance ", "image "
 abbrev pub oidText : List ℕ
 oidText = 111 ∷ 105 ∷ 100 ∷ 32 ∷ []
 
-abbrev pub instanceText : List ℕ
-instanceText = 105 ∷ 110 ∷ 115 ∷ 116 ∷ 97 ∷ 110 ∷ 99 ∷ 101 ∷ 32 ∷ []
+abbrev pub instanceWord : List ℕ
+instanceWord = 105 ∷ 110 ∷ 115 ∷ 116 ∷ 97 ∷ 110 ∷ 99 ∷ 101 ∷ 32 ∷ []
 
 abbrev pub imageText : List ℕ
 imageText = 105 ∷ 109 ∷ 97 ∷ 103 ∷ 101 ∷ 32 ∷ []
@@ -38,8 +39,11 @@ abbrev pub encodedText : Option Fault → List ℕ → List ℕ
 encodedText none oid = oidText ++ dottedText oid
 encodedText (some f) oid = faultText f
 
+abbrev pub instanceText : Table → ℕ → List ℕ → List ℕ
+instanceText t column key = encodedText (encodeFault t column key parts) (instance t column (indexOf t key))
+
 abbrev pub columnKey : Table → ℕ → List (List ℕ) → List ℕ
-columnKey t column fields = instanceText ++ (decimalText column ++ (32 ∷ keyText t fields))
+columnKey t column fields = instanceWord ++ (decimalText column ++ (32 ∷ keyText t fields))
 
 abbrev pub instanceOf : Table → ℕ → List ℕ → List ℕ
 instanceOf t column key = columnKey t column (values (keyFields t) key)
@@ -56,8 +60,13 @@ imageTextOf (some t) = imageText ++ hexText (imageOf t)
 abbrev pub answerRoom : ℕ
 answerRoom = 6 + 2 * room
 
-abbrev pub Room : List ℕ → Type 0
-Room out = answerRoom ≤ length out
+abbrev pub Room : ℕ → List ℕ → Type 0
+Room at out = at + answerRoom ≤ length out
+
+-- the text is put into the buffer, and takes no more than that room
+pub record Told (text : List ℕ) (at : ℕ) (w after : List ℕ) (r : ℕ) : Type 0 where
+  pub puts : Puts text at w after r
+  pub short : length text ≤ answerRoom
 
 -- the text at the front of the buffer, r octets of it
 pub record Shows (text out : List ℕ) (r : ℕ) : Type 0 where

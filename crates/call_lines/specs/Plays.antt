@@ -7,16 +7,13 @@ use Prim.Native.Nat.{ℕ, _+_, _≤_}
 use lib.ListN.{length, take}
 use Rattle.answers.specs.declared.Fault.the-variants.{OutOfRange}
 use Rattle.image.specs.Store.{held}
-use Rattle.instance_encode.specs.Instances.{instance, encodeFault}
-use Rattle.rows.specs.Rows.{indexOf}
-use Rattle.rows.specs.declared.Table.{Table}
 use Rattle.instance_decode.specs.Decoding.{readInstance}
 use Rattle.edits.specs.Does.{Call, Reply, replyNumber, Does}
 use Rattle.text_values.specs.Texts.{decimalText}
-use Rattle.line_fields.specs.declared.Slot.{Slot}
+use Rattle.text_rows.specs.declared.Slot.{Slot}
 use Rattle.line_fields.specs.Slots.{slotIn, partIn, numberIn}
 use Rattle.call_words.specs.Calls.{Asked, calls, encodes, decodes, images}
-use Rattle.call_answers.specs.Answers.{parts, faultText, encodedText, decodedText, imageTextOf, answerRoom, Shows}
+use Rattle.call_answers.specs.Answers.{faultText, instanceText, decodedText, imageTextOf, answerRoom, Told}
 
 -- ---- a line played
 
@@ -31,9 +28,6 @@ pub record CallTells (call : Call) (found after text : List ℕ) : Type 0 where
   pub does : Does found call reply after
   pub text-is : text ≡ decimalText (replyNumber reply)
 
-abbrev pub instanceText : Table → ℕ → List ℕ → List ℕ
-instanceText t column key = encodedText (encodeFault t column key parts) (instance t column (indexOf t key))
-
 unfoldable pub Plays : Option Asked → (found after text : List ℕ) → Type 0
 Plays none found after text = Tells (faultText OutOfRange) found after text
 Plays (some (calls c)) found after text = CallTells c found after text
@@ -43,14 +37,15 @@ Plays (some images) found after text = Tells (imageTextOf (held found)) found af
 
 -- ---- how the code plays it
 
-abbrev pub ShowsInstance : List Slot → (bytes numbers out : List ℕ) → ℕ → Type 0
-ShowsInstance ss bytes numbers out r =
-    Shows (instanceText (slotIn ss 1 .table) (numberIn (slotIn ss 0) numbers) (partIn (slotIn ss 1) bytes)) out r
+-- the instance of the column and the key that slots hold, told
+abbrev pub instanceIn : List Slot → (bytes numbers : List ℕ) → List ℕ
+instanceIn ss bytes numbers = instanceText (slotIn ss 1 .table) (numberIn (slotIn ss 0) numbers) (partIn (slotIn ss 1) bytes)
 
--- the call's answer at the front of the buffer
-pub record ShowsPlay (call : Option Asked) (found after out : List ℕ) (r : ℕ) : Type 0 where
-  pub plays : Plays call found after (take r out)
-  pub inside : r ≤ length out
+-- the call's answer is put into the buffer
+pub record PutsPlay (call : Option Asked) (found after : List ℕ) (at : ℕ) (w out : List ℕ) (r : ℕ) : Type 0 where
+  pub text : List ℕ
+  pub plays : Plays call found after text
+  pub told : Told text at w out r
 
 -- ---- the line that is printed
 

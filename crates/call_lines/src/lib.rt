@@ -4,7 +4,7 @@ use call_answers::ANSWER_ROOM;
 use call_words::Verb;
 use line_fields::LINE_ROOM;
 use line_fields::MOST_FIELDS;
-use line_fields::Slot;
+use text_rows::Slot;
 ghost use mathlib.Core.Path.{_≡_};
 ghost use Prim.Native.Nat.{_≤_};
 ghost use lib.ListN.{length};
@@ -12,8 +12,8 @@ ghost use Rattle.line_fields.specs.Slots.{Fit};
 ghost use Rattle.call_words.specs.declared.Verb.the-variants.{Encode};
 ghost use Rattle.call_words.specs.Calls.{kindsOf, lineSaid};
 ghost use Rattle.call_words.specs.Reading.{askedIn};
-ghost use Rattle.call_answers.specs.Answers.{faultText, Room, Shows};
-ghost use Rattle.call_lines.specs.Plays.{ShowsInstance, lineRoom, faultRoom, lineText, ShowsPlay, ShowsLine};
+ghost use Rattle.call_answers.specs.Answers.{faultText, Room, Told, Shows};
+ghost use Rattle.call_lines.specs.Plays.{instanceIn, lineRoom, faultRoom, lineText, PutsPlay, ShowsLine};
 
 // Room for what is told of a line: its number of 20 digits at most, a space, the answer, a newline.
 pub const TOLD_ROOM: usize = ANSWER_ROOM + 22;
@@ -24,15 +24,21 @@ pub const FAULT_ROOM: usize = 64;
 // ---- calls
 
 // Tells the instance of the column and the key that slots hold.
-fn encode(slots: [Slot; MOST_FIELDS], bytes: &[u8], parts: &[u32], out: &mut [u8]) -> usize
+fn encode(
+    slots: [Slot; MOST_FIELDS],
+    bytes: &[u8],
+    parts: &[u32],
+    out: &mut [u8],
+    at: usize,
+) -> usize
     requires { ⌜ Fit slots (kindsOf Encode) (now bytes) (now parts) ⌝ }
-    requires { ⌜ Room (now out) ⌝ }
-    ensures { λ r. ⌜ ShowsInstance slots (now (bytes .entry)) (now (parts .entry)) (now (out .exit)) r ⌝ }
+    requires { ⌜ Room at (now out) ⌝ }
+    ensures { λ r. ⌜ Told (instanceIn slots (now (bytes .entry)) (now (parts .entry))) at (now (out .entry)) (now (out .exit)) r ⌝ }
 {
     let key = slots[1];
     let t = key.table;
     let column = line_fields::number_in(parts, slots[0]);
-    call_answers::tell_encoded(t, column, line_fields::octets_in(bytes, key), out)
+    call_answers::tell_encoded(out, at, t, column, line_fields::octets_in(bytes, key))
 }
 
 // Plays what slots hold on a store.
@@ -43,44 +49,46 @@ fn play_call(
     bytes: &[u8],
     parts: &[u32],
     out: &mut [u8],
+    at: usize,
 ) -> usize
     requires { ⌜ Fit slots (kindsOf verb) (now bytes) (now parts) ⌝ }
-    requires { ⌜ Room (now out) ⌝ }
-    ensures { λ r. ⌜ ShowsPlay (askedIn verb slots (now (bytes .entry)) (now (parts .entry))) (now (store .entry)) (now (store .exit)) (now (out .exit)) r ⌝ }
+    requires { ⌜ Room at (now out) ⌝ }
+    ensures { λ r. ⌜ PutsPlay (askedIn verb slots (now (bytes .entry)) (now (parts .entry))) (now (store .entry)) (now (store .exit)) at
+        (now (out .entry)) (now (out .exit)) r ⌝ }
 {
     match verb {
         Verb::Decide => {
             let number = call_words::decide(store, slots, bytes, parts);
-            call_answers::tell_number(out, number)
+            text_values::put_decimal(out, at, number as u64)
         }
         Verb::Owner => {
             let number = call_words::edit_as_owner(store, slots, bytes, parts);
-            call_answers::tell_number(out, number)
+            text_values::put_decimal(out, at, number as u64)
         }
         Verb::Principal => {
             let number = call_words::edit_as_principal(store, slots, bytes, parts);
-            call_answers::tell_number(out, number)
+            text_values::put_decimal(out, at, number as u64)
         }
-        Verb::Encode => encode(slots, bytes, parts, out),
+        Verb::Encode => encode(slots, bytes, parts, out, at),
         Verb::Decode => {
-            call_answers::tell_decoded(line_fields::identifier_in(parts, slots[0]), out)
+            call_answers::tell_decoded(out, at, line_fields::identifier_in(parts, slots[0]))
         }
-        Verb::Image => call_answers::tell_image(store, out),
-        Verb::Unknown => call_answers::tell_fault(out, Fault::OutOfRange),
+        Verb::Image => call_answers::tell_image(out, at, store),
+        Verb::Unknown => call_answers::tell_fault(out, at, Fault::OutOfRange),
     }
 }
 
-// Plays the call of a line on a store: the answer's text at the front of `out`, and its length.
-pub fn play(store: &mut [u8], line: &[u8], out: &mut [u8]) -> usize
-    requires { ⌜ Room (now out) ⌝ }
-    ensures { λ r. ⌜ ShowsPlay (lineSaid (now (line .entry))) (now (store .entry)) (now (store .exit)) (now (out .exit)) r ⌝ }
+// Plays the call of a line on a store: the answer's text in `out` from `at` on, and where it ends.
+pub fn play(store: &mut [u8], line: &[u8], out: &mut [u8], at: usize) -> usize
+    requires { ⌜ Room at (now out) ⌝ }
+    ensures { λ r. ⌜ PutsPlay (lineSaid (now (line .entry))) (now (store .entry)) (now (store .exit)) at (now (out .entry)) (now (out .exit)) r ⌝ }
 {
     let mut bytes = [0u8; LINE_ROOM];
     let mut parts = [0u32; LINE_ROOM];
     let read = call_words::read_call(line, &mut bytes, &mut parts);
     let verb = read.verb;
     let slots = read.slots;
-    play_call(store, verb, slots, &bytes, &parts, out)
+    play_call(store, verb, slots, &bytes, &parts, out, at)
 }
 
 // ---- what is printed
@@ -92,9 +100,7 @@ pub fn answer_line(store: &mut [u8], number: u64, line: &[u8], out: &mut [u8]) -
 {
     let space = text_values::put_decimal(out, 0, number);
     let from = text_values::put_octet(out, space, b' ');
-    let to = from + ANSWER_ROOM;
-    let n = play(store, line, &mut out[from..to]);
-    let newline = from + n;
+    let newline = play(store, line, out, from);
     text_values::put_octet(out, newline, b'\n')
 }
 

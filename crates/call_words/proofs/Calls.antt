@@ -15,7 +15,7 @@ use Rattle.edits.specs.Does.{ask, owner, by}
 use Rattle.text_words.specs.Words.{longest, between, words, wordsFrom}
 use Rattle.text_words.proofs.WordsFrom.{WordAt, from-start}
 use Rattle.line_fields.specs.declared.Kind.{Kind}
-use Rattle.line_fields.specs.declared.Slot.{Slot}
+use Rattle.text_rows.specs.declared.Slot.{Slot}
 use Rattle.line_fields.specs.Kinds.{Value, valueAt, partsAt, numberAt, editAt, valuesSaid}
 use Rattle.line_fields.specs.Slots.{side, inParts, kindIn, slotIn, partIn, numberIn, valueIn, Holds, Fit, Whole}
 use Rattle.line_fields.proofs.RequestSlots.{request-held}
@@ -26,7 +26,7 @@ use Rattle.call_words.specs.Calls.{kindsOf, Asked, calls, encodes, decod
 use Rattle.call_words.specs.Reading.{editIn, askedIn, ReadsCall}
 
 -- no word has more fields than slots
-pub kinds-few : (v : Verb) → length (kindsOf v) ≤ 8
+pub kinds-few : (v : Verb) → length (kindsOf v) ≤ 6
 kinds-few Decide = omega arith
 kinds-few Owner = omega arith
 kinds-few Principal = omega arith
@@ -84,7 +84,8 @@ held Owner slots bytes parts values h = ap (λ e. some (calls (owner e))) (same-
 held Principal slots bytes parts values h =
     same-principal (numbered (h 0 (omega arith) .is)) (ap (λ v. v .parts) (h 1 (omega arith) .is)) (numbered (h 2 (omega arith) .is))
     (same-edit (h 3 (omega arith) .is))
-held Encode slots bytes parts values h = same-encoded (ap (λ v. v .table) (h 1 (omega arith) .is)) (numbered (h 0 (omega arith) .is)) (ap (λ v. v .parts) (h 1 (omega arith) .is))
+held Encode slots bytes parts values h =
+    same-encoded (ap (λ v. v .table) (h 1 (omega arith) .is)) (numbered (h 0 (omega arith) .is)) (ap (λ v. v .parts) (h 1 (omega arith) .is))
 held Decode slots bytes parts values h = ap (λ v. some (decodes (v .parts))) (h 0 (omega arith) .is)
 held Image slots bytes parts values h = refl
 held Unknown slots bytes parts values h = refl

@@ -6,7 +6,7 @@ use Prim.Native.Nat.{ℕ, _≤_, _<_}
 use lib.ListN.{length}
 use Rattle.edit_rules.specs.Edits.{Edit, editOf, callerOf}
 use Rattle.edits.specs.Does.{Call, ask, owner, by, Reply, replyNumber, Does}
-use Rattle.line_fields.specs.declared.Slot.{Slot}
+use Rattle.text_rows.specs.declared.Slot.{Slot}
 use Rattle.line_fields.specs.Kinds.{Value, valueAt}
 use Rattle.line_fields.specs.Requests.{requestIn}
 use Rattle.line_fields.specs.Slots.{lineRoom, side, inParts, kindIn, slotIn, partIn, numberIn, Holds}

@@ -2,7 +2,7 @@
 use line_fields::Kind;
 use line_fields::MOST_FIELDS;
 use line_fields::REQUEST_FIELDS;
-use line_fields::Slot;
+use text_rows::Slot;
 use text_words::LONGEST_LINE;
 ghost use mathlib.Core.Path.{_≡_};
 ghost use lib.ListN.{length};
@@ -46,23 +46,12 @@ fn kinds_of(v: Verb) -> [Kind; MOST_FIELDS]
 {
     match v {
         Verb::Decide => line_fields::request_kinds(),
-        Verb::Owner => [
-            Kind::Edit,
-            Kind::Number,
-            Kind::Number,
-            Kind::Number,
-            Kind::Number,
-            Kind::Number,
-            Kind::Number,
-            Kind::Number,
-        ],
+        Verb::Owner => [Kind::Edit; MOST_FIELDS],
         Verb::Principal => [
             Kind::Number,
             Kind::Name,
             Kind::Number,
             Kind::Edit,
-            Kind::Number,
-            Kind::Number,
             Kind::Number,
             Kind::Number,
         ],
@@ -73,39 +62,10 @@ fn kinds_of(v: Verb) -> [Kind; MOST_FIELDS]
             Kind::Number,
             Kind::Number,
             Kind::Number,
-            Kind::Number,
-            Kind::Number,
         ],
-        Verb::Decode => [
-            Kind::Identifier,
-            Kind::Number,
-            Kind::Number,
-            Kind::Number,
-            Kind::Number,
-            Kind::Number,
-            Kind::Number,
-            Kind::Number,
-        ],
-        Verb::Image => [
-            Kind::Number,
-            Kind::Number,
-            Kind::Number,
-            Kind::Number,
-            Kind::Number,
-            Kind::Number,
-            Kind::Number,
-            Kind::Number,
-        ],
-        Verb::Unknown => [
-            Kind::Number,
-            Kind::Number,
-            Kind::Number,
-            Kind::Number,
-            Kind::Number,
-            Kind::Number,
-            Kind::Number,
-            Kind::Number,
-        ],
+        Verb::Decode => [Kind::Identifier; MOST_FIELDS],
+        Verb::Image => [Kind::Number; MOST_FIELDS],
+        Verb::Unknown => [Kind::Number; MOST_FIELDS],
     }
 }
 

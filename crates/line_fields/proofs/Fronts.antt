@@ -1,11 +1,11 @@
--- What is put behind the front of a list, and what a part of the front holds afterwards. Assumes nothing.
+-- A part of a list's front holds what it held where the front stays. Assumes nothing.
 use mathlib.Core.Path.{_≡_, sym, ap, _∙_}
-use mathlib.Core.List.{List, _++_}
+use mathlib.Core.List.{List}
 use Prim.Native.Nat.{ℕ, _+_, _-_, _≤_}
 use native.Mathlib.Omega.{arith}
 use lib.Dec.{ltb}
-use lib.ListN.{length, take, drop, length-append, drop-of-length-le}
-use lib.Seq.{length-take-le, take-take, take-nil, take-all, take-add, take-at, drop-at}
+use lib.ListN.{length, take, drop, drop-of-length-le}
+use lib.Seq.{length-take-le, take-take, take-nil, take-all, take-add, drop-at}
 use borrow.Author.Tests.{ltb-true, ltb-false}
 use Rattle.numbers.proofs.Bools.{split as by}
 use Rattle.text_words.specs.Words.{between}
@@ -31,22 +31,3 @@ between-kept from end n w after f h e =
     between-drop from end w f
     ∙ ap (drop from) (sym (take-take end n w h) ∙ ap (take end) (sym e) ∙ take-take end n after h)
     ∙ sym (between-drop from end after f)
-
--- behind `from` elements of `found`, `of` was put, up to n
-pub record Grown (n from : ℕ) (found out of : List ℕ) : Type 0 where
-  pub holds : between from n out ≡ of
-  pub kept : take from out ≡ take from found
-  pub forward : from ≤ n
-  pub inside : n ≤ length out
-
-pub grown : (n from : ℕ) (found out of : List ℕ) → take n out ≡ take from found ++ of → from ≤ length found → n ≤ length out → Grown n from found out of
-grown n from found out of e h i =
-    let l : length (take from found) ≡ from = length-take-le from found h in
-    let m = length-take-le n out i in
-    let f : from ≤ n = omega (arith, simp length-append at (ap length e)) in
-    record {
-      holds = between-drop from n out f ∙ ap (drop from) e ∙ drop-at (take from found) of from l;
-      kept = sym (take-take from n out f) ∙ ap (take from) e ∙ take-at (take from found) of from l;
-      forward = f;
-      inside = i;
-    }

@@ -7,13 +7,13 @@ use native.Mathlib.Omega.{arith}
 use lib.ListN.{length, getD}
 use Rattle.decision_steps.specs.Request.{Request, asked}
 use Rattle.line_fields.specs.declared.Kind.{Kind}
-use Rattle.line_fields.specs.declared.Slot.{Slot}
+use Rattle.text_rows.specs.declared.Slot.{Slot}
 use Rattle.line_fields.specs.Kinds.{Value, valueAt, valuesSaid}
 use Rattle.line_fields.specs.Requests.{requestKinds, requestOf, requestIn, request}
 use Rattle.line_fields.specs.Slots.{side, inParts, kindIn, slotIn, Holds, Kinds, Lists, Whole, Fit}
 
 -- kinds that are listed are so many of an array
-pub kinds-fit : {kinds all : List Kind} → Lists kinds all → length kinds ≤ 8 → Kinds (length kinds) all
+pub kinds-fit : {kinds all : List Kind} → Lists kinds all → length kinds ≤ 6 → Kinds (length kinds) all
 kinds-fit l h = record { few = h; inside = omega (arith, l .room) }
 
 -- slots that hold values lie in their buffers

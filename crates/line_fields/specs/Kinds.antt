@@ -1,8 +1,8 @@
 -- The fields of a line by their kinds, read from its words one after the other; a line of kinds has no word over.
 --
---     Number       a decimal number          Row     a table's word and its fields
---     Name         octets in hex             Key     a table's word and its key fields
---     Identifier   numbers with dots         Edit    `put` and a row, or `remove` and a key
+--     Number       a decimal number          Key     a table's word and its key fields
+--     Name         octets in hex             Edit    `put` and a row, a table's word and its fields, or `remove` and a key
+--     Identifier   numbers with dots
 --
 -- What a line means picks its values by their places. Assumes nothing.
 use mathlib.Core.List.{List, [], _∷_}
@@ -19,7 +19,7 @@ use Rattle.edit_rules.specs.Edits.{Edit, editOf}
 use Rattle.text_words.specs.Words.{decimal, hexOctets, dotted}
 use Rattle.text_rows.specs.EntryWords.{Entry, entrySaid}
 use Rattle.line_fields.specs.declared.Kind.{Kind}
-use Rattle.line_fields.specs.declared.Kind.the-variants.{Number, Name, Identifier, Row, Key, Edit as Kind·Edit}
+use Rattle.line_fields.specs.declared.Kind.the-variants.{Number, Name, Identifier, Key, Edit as Kind·Edit}
 
 -- ---- values: the octets of a name, the parts of an identifier, a number as the list of that number, or the bytes of a row or a key
 
@@ -69,9 +69,13 @@ operations = Put ∷ Remove ∷ []
 unfoldable pub operationNamed : List ℕ → Option Operation
 operationNamed w = find (λ o. same (operationWord o) w) operations
 
+-- what the operation of the first word is handed by the others
+abbrev pub edited : List ℕ → List (List ℕ) → Option Taken
+edited w ws = bind (operationNamed w) (λ o. entered o (entrySaid o ws))
+
 abbrev pub editSaid : List (List ℕ) → Option Taken
 editSaid [] = none
-editSaid (w ∷ ws) = bind (operationNamed w) (λ o. entered o (entrySaid o ws))
+editSaid (w ∷ ws) = edited w ws
 
 -- ---- a field of each kind, and the fields of a line
 
@@ -79,7 +83,6 @@ unfoldable pub kindSaid : Kind → List (List ℕ) → Option Taken
 kindSaid Number ws = oneWord number ws
 kindSaid Name ws = oneWord hexOctets ws
 kindSaid Identifier ws = oneWord dotted ws
-kindSaid Row ws = entered Put (entrySaid Put ws)
 kindSaid Key ws = entered Remove (entrySaid Remove ws)
 kindSaid Kind·Edit ws = editSaid ws
 

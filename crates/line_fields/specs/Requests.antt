@@ -5,7 +5,7 @@ use Prim.Native.Nat.{ℕ}
 use Rattle.decision_steps.specs.Request.{Request, asked}
 use Rattle.line_fields.specs.declared.Kind.{Kind}
 use Rattle.line_fields.specs.declared.Kind.the-variants.{Number, Name, Identifier}
-use Rattle.line_fields.specs.declared.Slot.{Slot}
+use Rattle.text_rows.specs.declared.Slot.{Slot}
 use Rattle.line_fields.specs.Slots.{slotIn, numberIn, partIn}
 use Rattle.line_fields.specs.Kinds.{Value, partsAt, numberAt, valuesSaid}
 

@@ -4,29 +4,22 @@ use mathlib.Core.Bool.{Bool, true, false}
 use mathlib.Core.List.{List}
 use mathlib.Core.Option.{Option, none, some}
 use Prim.Native.Nat.{ℕ, suc, _+_, _*_, _≤_, _<_}
-use lib.ListN.{length, take, getD}
+use lib.ListN.{length, take, getD, replicate}
 use Rattle.rows.specs.declared.Operation.the-variants.{Put}
-use Rattle.rows.specs.declared.Operation.{Operation}
 use Rattle.rows.specs.declared.Table.the-variants.{Context}
-use Rattle.text_words.specs.Words.{longest, between, wordsFrom}
-use Rattle.text_fields.specs.RowWords.{Roomy}
+use Rattle.numbers.specs.Laid.{laid}
+use Rattle.text_words.specs.Words.{longest, between, wordsFrom, Unfilled}
+use Rattle.text_words.specs.declared.Filled.{Filled}
+use Rattle.text_rows.specs.declared.Slot.{Slot}
+use Rattle.text_rows.specs.declared.Found.{Found}
 use Rattle.line_fields.specs.declared.Kind.{Kind}
-use Rattle.line_fields.specs.declared.Kind.the-variants.{Number, Name, Identifier, Row, Key, Edit}
-use Rattle.line_fields.specs.declared.Slot.{Slot}
-use Rattle.line_fields.specs.declared.Place.{Place}
-use Rattle.line_fields.specs.declared.Found.{Found}
+use Rattle.line_fields.specs.declared.Kind.the-variants.{Number, Name, Identifier, Key, Edit}
 use Rattle.line_fields.specs.declared.Fields.{Fields}
-use Rattle.line_fields.specs.declared.Changed.{Changed}
 use Rattle.line_fields.specs.Kinds.{Value, valueOf, valueAt, Taken, taken}
-
--- the operation that the code answers
-abbrev pub named : Changed → Option Operation
-named (Changed.By o) = some o
-named Changed.Other = none
 
 -- the most fields of a line
 abbrev pub mostFields : ℕ
-mostFields = 8
+mostFields = 6
 
 -- room for what a line says: an octet of it makes four bytes or parts at most
 abbrev pub lineRoom : ℕ
@@ -37,7 +30,6 @@ abbrev pub inParts : Kind → Bool
 inParts Number = true
 inParts Name = false
 inParts Identifier = true
-inParts Row = false
 inParts Key = false
 inParts Edit = false
 
@@ -55,6 +47,9 @@ plainSlot from end = record { operation = Put; table = Context; from = from; end
 
 abbrev pub slotIn : List Slot → ℕ → Slot
 slotIn ss i = getD ss i (plainSlot 0 0)
+
+abbrev pub noSlots : List Slot
+noSlots = replicate mostFields (plainSlot 0 0)
 
 -- the part of its buffer that a slot holds, and the number there
 abbrev pub partIn : Slot → List ℕ → List ℕ
@@ -77,41 +72,39 @@ pub record Holds (s : Slot) (v : Value) (w : List ℕ) : Type 0 where
 
 -- ---- a field
 
--- it lies in a buffer behind `from`, where the slot says; what was filled before stays, and the next word begins at `next`
-pub record Lies (s : Slot) (next at from : ℕ) (line found out : List ℕ) (said : Option Taken) : Type 0 where
-  pub is : said ≡ some (taken (valueIn s out) (wordsFrom next line))
-  pub begins : s .from ≡ from
-  pub within : Within s (length out)
-  pub kept : take from out ≡ take from found
-  pub next-in : next ≤ suc (length line)
-  pub short : s .end + 4 * at ≤ from + 4 * next
-
-abbrev pub Finds : Found → (at from : ℕ) (line found out : List ℕ) → Option Taken → Type 0
-Finds (Found.At s next) at from line found out said = Lies s next at from line found out said
-Finds Found.Malformed at from line found out said = said ≡ none
-
--- where the next word begins, and up to where the buffers are filled, with room for what the rest of the line says
-pub record Ready (p : Place) (line bytes parts : List ℕ) : Type 0 where
-  pub bytes-room : Roomy line (p .at) bytes (p .bytes)
-  pub parts-room : Roomy line (p .at) parts (p .parts)
-
--- it lies in the buffer of its kind, and the other stays
-pub record Adds (inParts : Bool) (r : Found) (p : Place) (line bytes bytes' parts parts' : List ℕ) (said : Option Taken) : Type 0 where
-  pub finds : Finds r (p .at) (side inParts (p .bytes) (p .parts)) line (side inParts bytes parts) (side inParts bytes' parts') said
-  pub other : side inParts parts' bytes' ≡ side inParts parts bytes
-
--- the place behind it
-abbrev pub placeBehind : Bool → Place → (end next : ℕ) → Place
-placeBehind inParts p end next = record { at = next; bytes = side inParts end (p .bytes); parts = side inParts (p .parts) end }
-
--- ---- the fields of a line
-
 -- a line that is not too long, a place in it, and buffers for what it says
 pub record Lent (line : List ℕ) (at : ℕ) (bytes parts : List ℕ) : Type 0 where
   pub line-short : length line ≤ longest
   pub at-in : at ≤ suc (length line)
   pub bytes-room : lineRoom ≤ length bytes
   pub parts-room : lineRoom ≤ length parts
+
+-- its value was laid where the slot says, behind all that the words before `at` make, and in front of what those from `next` on make
+pub record Lies (s : Slot) (next at : ℕ) (line found out : List ℕ) (said : Option Taken) : Type 0 where
+  pub of : List ℕ
+  pub is : said ≡ some (taken (valueOf (s .operation) (s .table) of) (wordsFrom next line))
+  pub lays : out ≡ laid (s .from) of found
+  pub ends : s .end ≡ s .from + length of
+  pub inside : s .end ≤ length found
+  pub begins : 4 * at ≤ s .from
+  pub short : s .end ≤ 4 * next
+  pub next-in : next ≤ suc (length line)
+
+abbrev pub Finds : Found → (at : ℕ) (line found out : List ℕ) → Option Taken → Type 0
+Finds (Found.At s next) at line found out said = Lies s next at line found out said
+Finds Found.Malformed at line found out said = Unfilled (4 * at) found out said
+
+-- what one word was read into
+abbrev pub wordFound : Filled → (from next : ℕ) → Found
+wordFound (Filled.Upto end) from next = Found.At (plainSlot from end) next
+wordFound Filled.Malformed from next = Found.Malformed
+
+-- it lies in the buffer of its kind, and the other stays
+pub record Adds (inParts : Bool) (r : Found) (at : ℕ) (line bytes bytes' parts parts' : List ℕ) (said : Option Taken) : Type 0 where
+  pub finds : Finds r at line (side inParts bytes parts) (side inParts bytes' parts') said
+  pub other : side inParts parts' bytes' ≡ side inParts parts bytes
+
+-- ---- the fields of a line
 
 -- so many kinds, of an array
 pub record Kinds (n : ℕ) (kinds : List Kind) : Type 0 where

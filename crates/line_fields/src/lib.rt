@@ -1,25 +1,24 @@
 // The fields of a line, read by their kinds from its words. Numbers and identifiers go into a lent buffer of parts, everything else into one of
-// bytes, each filled from its front; a slot for each field says where it lies.
+// bytes; a slot for each field says where it lies.
 use rows::Operation;
 use rows::Table;
-use text_rows::Entered;
+use text_rows::Found;
+use text_rows::Slot;
 use text_words::Filled;
 use text_words::LONGEST_LINE;
 use text_words::Number;
 use text_words::Word;
 ghost use mathlib.Core.Path.{_≡_};
 ghost use lib.ListN.{length, take};
-ghost use Rattle.text_words.specs.Words.{wordsFrom};
+ghost use Prim.Native.Nat.{_*_, _<_};
+ghost use Rattle.text_words.specs.Words.{wordsFrom, Fills};
 ghost use Rattle.text_fields.specs.RowWords.{Roomy};
-ghost use Rattle.text_rows.specs.EntryWords.{entrySaid};
-ghost use Rattle.line_fields.specs.declared.Kind.the-variants.{Number as Kind·Number, Name as Kind·Name, Identifier as Kind·Identifier};
-ghost use Rattle.line_fields.specs.declared.Kind.the-variants.{Edit as Kind·Edit};
-ghost use Rattle.line_fields.specs.Kinds.{operationNamed, entered as Kinds·entered, kindSaid, valuesSaid};
+ghost use Rattle.line_fields.specs.Kinds.{number as Kinds·number, edited, kindSaid, valuesSaid};
 ghost use Rattle.line_fields.specs.Requests.{requestKinds};
-ghost use Rattle.line_fields.specs.Slots.{named, plainSlot, numberIn, partIn, Kinds, Lists, inParts, Within, Finds, Ready, Adds, placeBehind, Lent, ReadsFields};
+ghost use Rattle.line_fields.specs.Slots.{numberIn, partIn, noSlots, wordFound, Kinds, Lists, inParts, Within, Finds, Adds, Lent, ReadsFields};
 
 // The most fields of a line.
-pub const MOST_FIELDS: usize = 8;
+pub const MOST_FIELDS: usize = 6;
 
 // Room for what a line says: an octet of it makes four bytes or parts at most.
 pub const LINE_ROOM: usize = 4 * (LONGEST_LINE + 1);
@@ -29,95 +28,35 @@ pub enum Kind {
     Number,
     Name,
     Identifier,
-    Row,
     Key,
     Edit,
 }
 
-// Where a field lies in its buffer; and its operation and table, where it has them.
-pub struct Slot {
-    pub operation: Operation,
-    pub table: Table,
-    pub from: usize,
-    pub end: usize,
-}
+// ---- a field: one whose first word begins at `at` in the line lies in its buffer from `4 * at` on, behind all that words before it make
 
-// A field's slot, and where the next word begins.
-pub enum Found {
-    At(Slot, usize),
-    Malformed,
-}
-
-// ---- a field of one word
-
-// The slot of a field that has no operation and no table.
-fn plain(from: usize, end: usize) -> Slot
-    ensures { λ r. ⌜ r ≡ plainSlot from end ⌝ }
+// The number that a word says, into `out` at `from`.
+fn number(word: &[u8], out: &mut [u32], from: usize) -> Filled
+    requires { ⌜ from < length (now out) ⌝ }
+    ensures { λ r. ⌜ Fills r from 1 (now (out .entry)) (now (out .exit)) (Kinds·number (now (word .entry))) ⌝ }
 {
-    Slot {
-        operation: Operation::Put,
-        table: Table::Context,
-        from,
-        end,
-    }
+    let Number::Of(x) = text_words::decimal(word) else {
+        return Filled::Malformed;
+    };
+    out[from] = x;
+    Filled::Upto(from + 1)
 }
 
-fn number(line: &[u8], at: usize, parts: &mut [u32], from: usize) -> Found
-    requires { ⌜ Roomy (now line) at (now parts) from ⌝ }
-    ensures { λ r. ⌜ Finds r at from (now (line .entry)) (now (parts .entry)) (now (parts .exit)) (kindSaid Kind·Number (wordsFrom at (now (line .entry)))) ⌝ }
+// The field that one word says.
+fn one_word(filled: Filled, from: usize, next: usize) -> Found
+    ensures { λ r. ⌜ r ≡ wordFound filled from next ⌝ }
 {
-    let Word::To(end) = text_words::word_at(line, at) else {
-        return Found::Malformed;
-    };
-    let Number::Of(x) = text_words::decimal(&line[at..end]) else {
-        return Found::Malformed;
-    };
-    parts[from] = x;
-    Found::At(plain(from, from + 1), end + 1)
-}
-
-fn name(line: &[u8], at: usize, bytes: &mut [u8], from: usize) -> Found
-    requires { ⌜ Roomy (now line) at (now bytes) from ⌝ }
-    ensures { λ r. ⌜ Finds r at from (now (line .entry)) (now (bytes .entry)) (now (bytes .exit)) (kindSaid Kind·Name (wordsFrom at (now (line .entry)))) ⌝ }
-{
-    let Word::To(end) = text_words::word_at(line, at) else {
-        return Found::Malformed;
-    };
-    let Filled::Upto(n) = text_words::hex_octets(&line[at..end], bytes, from) else {
-        return Found::Malformed;
-    };
-    Found::At(plain(from, n), end + 1)
-}
-
-fn identifier(line: &[u8], at: usize, parts: &mut [u32], from: usize) -> Found
-    requires { ⌜ Roomy (now line) at (now parts) from ⌝ }
-    ensures { λ r. ⌜ Finds r at from (now (line .entry)) (now (parts .entry)) (now (parts .exit))
-        (kindSaid Kind·Identifier (wordsFrom at (now (line .entry)))) ⌝ }
-{
-    let Word::To(end) = text_words::word_at(line, at) else {
-        return Found::Malformed;
-    };
-    let Filled::Upto(n) = text_words::dotted(&line[at..end], parts, from) else {
-        return Found::Malformed;
-    };
-    Found::At(plain(from, n), end + 1)
-}
-
-// ---- a row, a key, an edit
-
-// The row or the key that an operation is handed.
-fn entered(o: Operation, line: &[u8], at: usize, bytes: &mut [u8], from: usize) -> Found
-    requires { ⌜ Roomy (now line) at (now bytes) from ⌝ }
-    ensures { λ r. ⌜ Finds r at from (now (line .entry)) (now (bytes .entry)) (now (bytes .exit))
-        (Kinds·entered o (entrySaid o (wordsFrom at (now (line .entry))))) ⌝ }
-{
-    let Entered::In(table, end, next) = text_rows::entry(o, line, at, bytes, from) else {
+    let Filled::Upto(end) = filled else {
         return Found::Malformed;
     };
     Found::At(
         Slot {
-            operation: o,
-            table,
+            operation: Operation::Put,
+            table: Table::Context,
             from,
             end,
         },
@@ -125,91 +64,44 @@ fn entered(o: Operation, line: &[u8], at: usize, bytes: &mut [u8], from: usize) 
     )
 }
 
-// What the word of an edit asks for.
-pub enum Changed {
-    By(Operation),
-    Other,
-}
-
-fn operation_named(word: &[u8]) -> Changed
-    ensures { λ r. ⌜ named r ≡ operationNamed (now (word .entry)) ⌝ }
+// What the operation that a word names is handed, from the word that begins at `at` on.
+fn edit(word: &[u8], line: &[u8], at: usize, bytes: &mut [u8]) -> Found
+    requires { ⌜ Roomy (now line) at (now bytes) (4 * at) ⌝ }
+    ensures { λ r. ⌜ Finds r at (now (line .entry)) (now (bytes .entry)) (now (bytes .exit))
+        (edited (now (word .entry)) (wordsFrom at (now (line .entry)))) ⌝ }
 {
-    match text_words::place_of(word, b"put remove") {
-        0 => Changed::By(Operation::Put),
-        1 => Changed::By(Operation::Remove),
-        _ => Changed::Other,
-    }
+    let operation = match text_words::place_of(word, b"put remove") {
+        0 => Operation::Put,
+        1 => Operation::Remove,
+        _ => {
+            return Found::Malformed;
+        }
+    };
+    text_rows::entry(operation, line, at, bytes, 4 * at)
 }
 
-fn edit(line: &[u8], at: usize, bytes: &mut [u8], from: usize) -> Found
-    requires { ⌜ Roomy (now line) at (now bytes) from ⌝ }
-    ensures { λ r. ⌜ Finds r at from (now (line .entry)) (now (bytes .entry)) (now (bytes .exit)) (kindSaid Kind·Edit (wordsFrom at (now (line .entry)))) ⌝ }
+// The field of a kind that the words from a place on say.
+fn field(k: Kind, line: &[u8], at: usize, bytes: &mut [u8], parts: &mut [u32]) -> Found
+    requires { ⌜ Lent (now line) at (now bytes) (now parts) ⌝ }
+    ensures { λ r. ⌜ Adds (inParts k) r at (now (line .entry)) (now (bytes .entry)) (now (bytes .exit)) (now (parts .entry)) (now (parts .exit))
+        (kindSaid k (wordsFrom at (now (line .entry)))) ⌝ }
 {
     let Word::To(end) = text_words::word_at(line, at) else {
         return Found::Malformed;
     };
-    let Changed::By(o) = operation_named(&line[at..end]) else {
-        return Found::Malformed;
-    };
-    entered(o, line, end + 1, bytes, from)
+    let word = &line[at..end];
+    let from = 4 * at;
+    let next = end + 1;
+    match k {
+        Kind::Number => one_word(number(word, parts, from), from, next),
+        Kind::Name => one_word(text_words::hex_octets(word, bytes, from), from, next),
+        Kind::Identifier => one_word(text_words::dotted(word, parts, from), from, next),
+        Kind::Key => text_rows::entry(Operation::Remove, line, at, bytes, from),
+        Kind::Edit => edit(word, line, next, bytes),
+    }
 }
 
 // ---- the fields of a line
-
-// Where the next word begins, and up to where the buffers are filled.
-pub struct Place {
-    pub at: usize,
-    pub bytes: usize,
-    pub parts: usize,
-}
-
-// The field of a kind that the words from a place on say.
-fn field(k: Kind, line: &[u8], p: Place, bytes: &mut [u8], parts: &mut [u32]) -> Found
-    requires { ⌜ Ready p (now line) (now bytes) (now parts) ⌝ }
-    ensures { λ r. ⌜ Adds (inParts k) r p (now (line .entry)) (now (bytes .entry)) (now (bytes .exit)) (now (parts .entry)) (now (parts .exit))
-        (kindSaid k (wordsFrom (p .at) (now (line .entry)))) ⌝ }
-{
-    match k {
-        Kind::Number => number(line, p.at, parts, p.parts),
-        Kind::Name => name(line, p.at, bytes, p.bytes),
-        Kind::Identifier => identifier(line, p.at, parts, p.parts),
-        Kind::Row => entered(Operation::Put, line, p.at, bytes, p.bytes),
-        Kind::Key => entered(Operation::Remove, line, p.at, bytes, p.bytes),
-        Kind::Edit => edit(line, p.at, bytes, p.bytes),
-    }
-}
-
-// Whether a kind is held in the buffer of parts.
-fn in_parts(k: Kind) -> bool
-    ensures { λ r. ⌜ r ≡ inParts k ⌝ }
-{
-    match k {
-        Kind::Number => true,
-        Kind::Name => false,
-        Kind::Identifier => true,
-        Kind::Row => false,
-        Kind::Key => false,
-        Kind::Edit => false,
-    }
-}
-
-// The place behind a field that ends at `end` in its buffer.
-fn behind(k: Kind, p: Place, end: usize, next: usize) -> Place
-    ensures { λ r. ⌜ r ≡ placeBehind (inParts k) p end next ⌝ }
-{
-    if in_parts(k) {
-        return Place {
-            at: next,
-            bytes: p.bytes,
-            parts: end,
-        };
-    }
-    Place {
-        at: next,
-        bytes: end,
-        parts: p.parts,
-    }
-}
 
 // Whether a line says a field of each kind and nothing else, and the slots of its fields.
 pub struct Fields {
@@ -218,8 +110,15 @@ pub struct Fields {
 }
 
 // Slots of no field.
-pub fn no_slots() -> [Slot; MOST_FIELDS] {
-    [plain(0, 0); MOST_FIELDS]
+pub fn no_slots() -> [Slot; MOST_FIELDS]
+    ensures { λ r. ⌜ r ≡ noSlots ⌝ }
+{
+    [Slot {
+        operation: Operation::Put,
+        table: Table::Context,
+        from: 0,
+        end: 0,
+    }; MOST_FIELDS]
 }
 
 // The fields of the first `n` kinds that the words from the one that begins at `at` on say.
@@ -235,33 +134,23 @@ pub fn read(
     requires { ⌜ Lent (now line) at (now bytes) (now parts) ⌝ }
     ensures { λ r. ⌜ ReadsFields r (take n kinds) (now (bytes .exit)) (now (parts .exit)) (valuesSaid (take n kinds) (wordsFrom at (now (line .entry)))) ⌝ }
 {
-    let mut slots = [plain(0, 0); MOST_FIELDS];
-    let mut p = Place {
-        at,
-        bytes: 0,
-        parts: 0,
-    };
+    let mut slots = no_slots();
+    let mut next = at;
     let mut i = 0;
     while i < n {
-        let k = kinds[i];
-        let Found::At(s, next) = field(k, line, p, bytes, parts) else {
+        let Found::At(s, behind) = field(kinds[i], line, next, bytes, parts) else {
             return Fields {
                 whole: false,
                 slots,
             };
         };
         slots[i] = s;
-        p = behind(k, p, s.end, next);
+        next = behind;
         i += 1;
     }
-    // a word over
-    if p.at <= line.len() {
-        return Fields {
-            whole: false,
-            slots,
-        };
-    }
-    Fields { whole: true, slots }
+    // no word is over
+    let whole = line.len() < next;
+    Fields { whole, slots }
 }
 
 // ---- a request
@@ -280,8 +169,6 @@ pub fn request_kinds() -> [Kind; MOST_FIELDS]
         Kind::Name,
         Kind::Name,
         Kind::Identifier,
-        Kind::Number,
-        Kind::Number,
     ]
 }
 

@@ -9,7 +9,7 @@ use borrow.Author.Tests.{le-leb, lt-leb}
 use Rattle.rows.specs.Tables.{Tables}
 use Rattle.text_words.specs.Words.{longest, words, wordsFrom}
 use Rattle.text_words.proofs.WordsFrom.{from-start}
-use Rattle.line_fields.specs.declared.Slot.{Slot}
+use Rattle.text_rows.specs.declared.Slot.{Slot}
 use Rattle.line_fields.specs.Kinds.{valuesSaid}
 use Rattle.line_fields.specs.Requests.{requestKinds, requestIn, request}
 use Rattle.line_fields.specs.Slots.{Whole}

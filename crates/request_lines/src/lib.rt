@@ -4,7 +4,7 @@ use image_layout::Layout;
 use line_fields::LINE_ROOM;
 use line_fields::MOST_FIELDS;
 use line_fields::REQUEST_FIELDS;
-use line_fields::Slot;
+use text_rows::Slot;
 use text_words::LONGEST_LINE;
 ghost use mathlib.Core.Path.{_≡_};
 ghost use mathlib.Core.Option.{some};

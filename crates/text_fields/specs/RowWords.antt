@@ -3,9 +3,10 @@ use mathlib.Core.Path.{_≡_}
 use mathlib.Core.List.{List, [], _∷_, _++_}
 use mathlib.Core.Option.{Option, none, some, bind}
 use Prim.Native.Nat.{ℕ, suc, _+_, _*_, _≤_}
-use lib.ListN.{length, take}
+use lib.ListN.{length}
+use Rattle.numbers.specs.Laid.{laid}
 use Rattle.rows.specs.Fields.{Field}
-use Rattle.text_words.specs.Words.{longest, wordsFrom}
+use Rattle.text_words.specs.Words.{longest, wordsFrom, Unfilled}
 use Rattle.text_fields.specs.FieldWords.{fieldSaid}
 use Rattle.text_fields.specs.declared.Placed.{Placed}
 
@@ -36,15 +37,16 @@ pub record Roomy (line : List ℕ) (at : ℕ) (out : List ℕ) (from : ℕ) : Ty
   pub at-in : at ≤ suc (length line)
   pub room : from + 4 * suc (length line) ≤ length out + 4 * at
 
--- up to where the buffer is filled behind `from`, and where the next word begins
+-- the bytes were laid from `from` on, up to `end`, and nothing else changed; the next word begins at `next`
 pub record Placing (end next from at : ℕ) (line found out : List ℕ) (s : Option Said) : Type 0 where
   pub of : List ℕ
   pub is : s ≡ some (said of (wordsFrom next line))
-  pub front-is : take end out ≡ take from found ++ of
-  pub inside : end ≤ length out
+  pub lays : out ≡ laid from of found
+  pub ends : end ≡ from + length of
+  pub inside : end ≤ length found
   pub next-in : next ≤ suc (length line)
   pub short : end + 4 * at ≤ from + 4 * next
 
 abbrev pub Places : Placed → (from at : ℕ) (line found out : List ℕ) → Option Said → Type 0
 Places (Placed.To end next) from at line found out s = Placing end next from at line found out s
-Places Placed.Malformed from at line found out s = s ≡ none
+Places Placed.Malformed from at line found out s = Unfilled from found out s

@@ -9,7 +9,7 @@ use Rattle.rows.specs.declared.Operation.{Operation}
 use Rattle.rows.specs.declared.Table.{Table}
 use Rattle.rows.specs.Rows.{rowFields}
 use Rattle.edit_rules.specs.Edits.{fieldsOf}
-use Rattle.text_words.specs.Words.{between, wordsFrom}
+use Rattle.text_words.specs.Words.{between, wordsFrom, Unfilled}
 use Rattle.text_words.proofs.WordsFrom.{WordAt, word-length}
 use Rattle.text_fields.specs.RowWords.{fieldsSaid, Roomy, Placing}
 use Rattle.text_rows.specs.TableWords.{tableNamed}
@@ -19,30 +19,33 @@ pub entry-missing : (o : Operation) (at : ℕ) (line : List ℕ) → wordsFrom a
 unfolding entrySaid
 entry-missing o at line e = rw e
 
-module _ (o : Operation) {at : ℕ} {line : List ℕ} where
-  module _ {end : ℕ} (w : WordAt at line end) where
-    pub entry-other : tableNamed (between at end line) ≡ none → entrySaid o (wordsFrom at line) ≡ none
+module _ (o : Operation) {at : ℕ} {line : List ℕ} {end : ℕ} (w : WordAt at line end) where
+  pub entry-other : none ≡ tableNamed (between at end line) → entrySaid o (wordsFrom at line) ≡ none
+  unfolding entrySaid bind
+  entry-other e = rw (w .is, ← e)
+
+  pub fields-room : {out : List ℕ} {from : ℕ} → Roomy line at out from → Roomy line (end + 1) out from
+  fields-room r = record { line-short = r .line-short; at-in = omega (arith, w .inside); room = omega (arith, r .room, w .forward) }
+
+  module _ {t : Table} (e : some t ≡ tableNamed (between at end line)) {n : ℕ} (k : Counts n o t) where
+    named : entrySaid o (wordsFrom at line) ≡ entryOf t (fieldsSaid (take n (rowFields t)) (wordsFrom (end + 1) line))
     unfolding entrySaid bind
-    entry-other e = rw (w .is, e)
+    named = rw (w .is, ← e, k .fields-are)
 
-    pub fields-room : {out : List ℕ} {from : ℕ} → Roomy line at out from → Roomy line (end + 1) out from
-    fields-room r = record { line-short = r .line-short; at-in = omega (arith, w .inside); room = omega (arith, r .room, w .forward) }
+    module _ {from : ℕ} {found out : List ℕ} where
+      pub entry-bad : Unfilled from found out (fieldsSaid (take n (rowFields t)) (wordsFrom (end + 1) line))
+          → Unfilled from found out (entrySaid o (wordsFrom at line))
+      entry-bad u = record { is = named ∙ rw (u .is); kept = u .kept }
 
-    module _ {t : Table} (e : tableNamed (between at end line) ≡ some t) {n : ℕ} (k : Counts n o t) where
-      named : entrySaid o (wordsFrom at line) ≡ entryOf t (fieldsSaid (take n (rowFields t)) (wordsFrom (end + 1) line))
-      unfolding entrySaid bind
-      named = rw (w .is, e, k .fields-are)
-
-      pub entry-bad : fieldsSaid (take n (rowFields t)) (wordsFrom (end + 1) line) ≡ none → entrySaid o (wordsFrom at line) ≡ none
-      entry-bad f = named ∙ rw f
-
-      pub entry-said : {to next from : ℕ} {found out : List ℕ}
-          → Placing to next from (end + 1) line found out (fieldsSaid (take n (rowFields t)) (wordsFrom (end + 1) line))
-          → Entering t to next from at line found out (entrySaid o (wordsFrom at line))
+      pub entry-said : {to next : ℕ} → Placing to next from (end + 1) line found out (fieldsSaid (take n (rowFields t)) (wordsFrom (end + 1) line))
+          → Entering (record { operation = o; table = t; from = from; end = to }) next o from at line found out (entrySaid o (wordsFrom at line))
       entry-said p = record {
         of = p .of;
         is = named ∙ rw (p .is);
-        front-is = p .front-is;
+        operation-is = refl;
+        begins = refl;
+        lays = p .lays;
+        ends = p .ends;
         inside = p .inside;
         next-in = p .next-in;
         short = omega (arith, p .short, w .forward);

@@ -9,10 +9,12 @@ use Rattle.rows.specs.declared.Table.{Table}
 use Rattle.rows.specs.Fields.{Field}
 use Rattle.rows.specs.Rows.{rowFields}
 use Rattle.edit_rules.specs.Edits.{fieldsOf}
-use Rattle.text_words.specs.Words.{wordsFrom}
+use Rattle.numbers.specs.Laid.{laid}
+use Rattle.text_words.specs.Words.{wordsFrom, Unfilled}
 use Rattle.text_fields.specs.RowWords.{Said, fieldsSaid}
 use Rattle.text_rows.specs.TableWords.{tableNamed}
-use Rattle.text_rows.specs.declared.Entered.{Entered}
+use Rattle.text_rows.specs.declared.Slot.{Slot}
+use Rattle.text_rows.specs.declared.Found.{Found}
 
 -- what a row or a key of a table says, and the words behind it
 pub record Entry : Type 0 where
@@ -36,15 +38,18 @@ pub record Counts (n : ℕ) (o : Operation) (t : Table) : Type 0 where
   pub fields-are : take n (rowFields t) ≡ fieldsOf o t
   pub inside : n ≤ length (rowFields t)
 
--- the bytes in the buffer behind `from`, up to `end`, and where the next word begins
-pub record Entering (t : Table) (end next from at : ℕ) (line found out : List ℕ) (e : Option Entry) : Type 0 where
+-- the bytes were laid from `from` on, as the slot says, and nothing else changed; the next word begins at `next`
+pub record Entering (s : Slot) (next : ℕ) (o : Operation) (from at : ℕ) (line found out : List ℕ) (e : Option Entry) : Type 0 where
   pub of : List ℕ
-  pub is : e ≡ some (record { table = t; bytes = of; rest = wordsFrom next line })
-  pub front-is : take end out ≡ take from found ++ of
-  pub inside : end ≤ length out
+  pub is : e ≡ some (record { table = s .table; bytes = of; rest = wordsFrom next line })
+  pub operation-is : s .operation ≡ o
+  pub begins : s .from ≡ from
+  pub lays : out ≡ laid from of found
+  pub ends : s .end ≡ from + length of
+  pub inside : s .end ≤ length found
   pub next-in : next ≤ suc (length line)
-  pub short : end + 4 * at ≤ from + 4 * next
+  pub short : s .end + 4 * at ≤ from + 4 * next
 
-abbrev pub Enters : Entered → (from at : ℕ) (line found out : List ℕ) → Option Entry → Type 0
-Enters (Entered.In t end next) from at line found out e = Entering t end next from at line found out e
-Enters Entered.Malformed from at line found out e = e ≡ none
+abbrev pub Enters : Found → (o : Operation) (from at : ℕ) (line found out : List ℕ) → Option Entry → Type 0
+Enters (Found.At s next) o from at line found out e = Entering s next o from at line found out e
+Enters Found.Malformed o from at line found out e = Unfilled from found out e

@@ -1,13 +1,11 @@
 -- The word that names a table, in ASCII. Assumes nothing.
 use mathlib.Core.List.{List, [], _∷_}
-use mathlib.Core.Option.{Option, none, some}
+use mathlib.Core.Option.{Option}
 use Prim.Native.Nat.{ℕ}
 use Rattle.numbers.specs.Lists.{find}
 use Rattle.numbers.specs.Order.{same}
 use Rattle.rows.specs.declared.Table.{Table}
 use Rattle.rows.specs.declared.Table.the-variants.{Context, Mapping, Access, View}
-use Rattle.text_rows.specs.declared.Named.{Named}
-use Rattle.text_rows.specs.declared.Named.the-variants.{In, Other}
 
 -- context, mapping, access, view
 abbrev pub tableWord : Table → List ℕ
@@ -22,8 +20,3 @@ tables = Context ∷ Mapping ∷ Access ∷ View ∷ []
 -- the table that a word names
 unfoldable pub tableNamed : List ℕ → Option Table
 tableNamed w = find (λ t. same (tableWord t) w) tables
-
--- the table that the code answers
-abbrev pub namedTable : Named → Option Table
-namedTable (In t) = some t
-namedTable Other = none

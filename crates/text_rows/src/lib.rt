@@ -17,27 +17,22 @@ ghost use Rattle.text_fields.specs.RowWords.{Roomy};
 ghost use Rattle.text_rows.specs.EntryWords.{Counts, entrySaid, Enters};
 ghost use Rattle.text_rows.specs.FieldText.{fieldText, FieldIn};
 ghost use Rattle.text_rows.specs.RowText.{fieldsText, keyText, Fields};
-ghost use Rattle.text_rows.specs.TableWords.{tableWord, tableNamed, namedTable};
+ghost use Rattle.text_rows.specs.TableWords.{tableWord};
 
 // ---- read from words
 
-// What a word names.
-pub enum Named {
-    In(Table),
-    Other,
+// Where a field of a line lies in its buffer; and its operation and table, where it has them.
+pub struct Slot {
+    pub operation: Operation,
+    pub table: Table,
+    pub from: usize,
+    pub end: usize,
 }
 
-// The table that a word names.
-pub fn table_named(word: &[u8]) -> Named
-    ensures { λ r. ⌜ namedTable r ≡ tableNamed (now (word .entry)) ⌝ }
-{
-    match text_words::place_of(word, b"context mapping access view") {
-        0 => Named::In(Table::Context),
-        1 => Named::In(Table::Mapping),
-        2 => Named::In(Table::Access),
-        3 => Named::In(Table::View),
-        _ => Named::Other,
-    }
+// A field's slot, and where the next word begins.
+pub enum Found {
+    At(Slot, usize),
+    Malformed,
 }
 
 // How many fields of a table an operation is handed: those of a row to put, or those of a key.
@@ -50,28 +45,36 @@ fn field_count(o: Operation, t: Table) -> usize
     }
 }
 
-// A table, up to where a lent buffer is filled with its row or key, and where the next word begins.
-pub enum Entered {
-    In(Table, usize, usize),
-    Malformed,
-}
-
 // The row or the key, as the operation has it, that the words from the one that begins at `at` on say, its bytes in `out` from `from` on.
-pub fn entry(o: Operation, line: &[u8], at: usize, out: &mut [u8], from: usize) -> Entered
+pub fn entry(o: Operation, line: &[u8], at: usize, out: &mut [u8], from: usize) -> Found
     requires { ⌜ Roomy (now line) at (now out) from ⌝ }
-    ensures { λ r. ⌜ Enters r from at (now (line .entry)) (now (out .entry)) (now (out .exit)) (entrySaid o (wordsFrom at (now (line .entry)))) ⌝ }
+    ensures { λ r. ⌜ Enters r o from at (now (line .entry)) (now (out .entry)) (now (out .exit)) (entrySaid o (wordsFrom at (now (line .entry)))) ⌝ }
 {
     let Word::To(end) = text_words::word_at(line, at) else {
-        return Entered::Malformed;
+        return Found::Malformed;
     };
-    let Named::In(t) = table_named(&line[at..end]) else {
-        return Entered::Malformed;
+    let table = match text_words::place_of(&line[at..end], b"context mapping access view") {
+        0 => Table::Context,
+        1 => Table::Mapping,
+        2 => Table::Access,
+        3 => Table::View,
+        _ => {
+            return Found::Malformed;
+        }
     };
-    let n = field_count(o, t);
-    let Placed::To(k, next) = text_fields::fields(t, n, line, end + 1, out, from) else {
-        return Entered::Malformed;
+    let n = field_count(o, table);
+    let Placed::To(end, next) = text_fields::fields(table, n, line, end + 1, out, from) else {
+        return Found::Malformed;
     };
-    Entered::In(t, k, next)
+    Found::At(
+        Slot {
+            operation: o,
+            table,
+            from,
+            end,
+        },
+        next,
+    )
 }
 
 // ---- told in words

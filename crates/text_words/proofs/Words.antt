@@ -2,28 +2,29 @@
 -- A number that digits say only grows with each digit, so that one that is too large stays so. What is read part by part is what was read, and
 -- what the rest says behind it. Assumes nothing.
 use mathlib.Core.Path.{_≡_, refl, sym, ap, _∙_}
-use mathlib.Core.Bool.{Bool, true, false, _&&_}
+use mathlib.Core.Bool.{true, false}
 use mathlib.Core.List.{List, [], _∷_, _++_, append-nil}
-use mathlib.Core.Option.{Option, none, some}
+use mathlib.Core.Option.{Option, none, some, Option·map}
 use Prim.Native.Nat.{ℕ, suc, _+_, _-_, _*_, _≤_, _<_}
 use native.Mathlib.Omega.{arith}
 use native.Mathlib.Numerals.{add-one}
 use lib.Dec.{eqb, ltb}
-use lib.ListN.{length, take, drop, set, getD, length-drop, length-set, length-append, drop-of-length-le}
-use lib.Seq.{length-take-le, drop-cons, drop-drop, take-suc-set, take-length, append-snoc}
+use lib.ListN.{length, take, drop, set, getD, length-drop, length-append, drop-of-length-le}
+use lib.Seq.{drop-cons, drop-drop, take-length, append-snoc}
 use borrow.Author.Tests.{eq-eqb, ne-eqb, lt-ltb, le-ltb, ltb-true, ltb-false}
 use Rattle.bytes.specs.Bytes.{slice, indexAfter, indexOf}
+use Rattle.numbers.specs.Laid.{laid}
 use Rattle.numbers.specs.Order.{same}
-use Rattle.numbers.proofs.Bools.{split as by, clash, and-false-right}
+use Rattle.numbers.proofs.Laid.{laid-nil, length-laid, laid-laid, laid-set}
+use Rattle.numbers.proofs.Bools.{split as by, clash}
 use Rattle.rows.specs.Fields.{within}
 use Rattle.rows.proofs.Sound.{within-most}
 use Rattle.rows.proofs.Steps.{within-low, within-high, within-yes}
+use Rattle.text_words.proofs.Kept.{laid-kept}
 use Rattle.text_words.specs.declared.Number.{Number}
 use Rattle.text_words.specs.declared.Number.the-variants.{Of, Bad}
-use Rattle.text_words.specs.declared.Filled.{Filled}
-use Rattle.text_words.specs.declared.Filled.the-variants.{Upto, Malformed}
 use Rattle.text_words.specs.Words.{between, longer, split, run, digitsFrom, below32, decimal, numberOf, also, dash, hexDigit, hexPair, hexPairs}
-use Rattle.text_words.specs.Words.{hexOctets, decimals, dotted, behind, Fills}
+use Rattle.text_words.specs.Words.{hexOctets, decimals, dotted, Filling, Unfilled}
 
 -- ---- how far the first mark stands
 
@@ -164,52 +165,77 @@ module _ {w : List ℕ} {i n : ℕ} (r : Reading w i n) where
 
 -- ---- what is read part by part
 
--- n elements of `out` and then what is left make all
-pub record Reads (all : Option (List ℕ)) (out : List ℕ) (n : ℕ) (left : Option (List ℕ)) : Type 0 where
-  pub inside : n ≤ length out
-  pub makes : all ≡ behind (take n out) left
+-- what was read, and then what is left
+behind : List ℕ → Option (List ℕ) → Option (List ℕ)
+behind xs o = Option·map (λ ys. xs ++ ys) o
 
-pub reads-start : (said : Option (List ℕ)) (out : List ℕ) (from : ℕ) → from ≤ length out → Reads (behind (take from out) said) out from said
-reads-start said out from h = record { inside = h; makes = refl }
+behind-nil : (o : Option (List ℕ)) → o ≡ behind [] o
+unfolding behind
+behind-nil none = refl
+behind-nil (some xs) = refl
 
-put-next : (all : Option (List ℕ)) (out : List ℕ) (n x : ℕ) (left : Option (List ℕ)) → all ≡ behind (take n out) (also (some x) left) → n < length out
-    → all ≡ behind (take (n + 1) (set out n x)) left
-put-next all out n x none e h = e
-put-next all out n x (some xs) e h = e ∙ ap some (sym (rw (add-one, take-suc-set out n x h) (append-snoc (take n out) x xs)))
+behind-next : (xs : List ℕ) (x : ℕ) (left : Option (List ℕ)) → behind xs (also (some x) left) ≡ behind (xs ++ (x ∷ [])) left
+unfolding behind
+behind-next xs x none = refl
+behind-next xs x (some ys) = ap some (sym (append-snoc xs x ys))
 
-module _ {all : Option (List ℕ)} {out : List ℕ} {n : ℕ} where
-  module _ {left : Option (List ℕ)} (r : Reads all out n left) where
-    pub reads-none : left ≡ none → all ≡ none
-    reads-none e = r .makes ∙ rw e
+-- what was read was laid from `from` on, up to n, and with what is left it makes all that is said
+pub record Reads (said : Option (List ℕ)) (found out : List ℕ) (from n : ℕ) (left : Option (List ℕ)) : Type 0 where
+  done : List ℕ
+  makes : said ≡ behind done left
+  lays : out ≡ laid from done found
+  ends : n ≡ from + length done
+  pub inside : n ≤ length found
 
-    module _ (part : Option ℕ) (rest : Option (List ℕ)) (e : left ≡ also part rest) where
-      -- the next part says x
-      pub reads-next : {x : ℕ} → part ≡ some x → n < length out → Reads all (set out n x) (n + 1) rest
-      reads-next {x} q h =
-          let m : left ≡ also (some x) rest = e ∙ ap (λ u. also u rest) q in
-          record { inside = simp length-set (omega arith); makes = put-next all out n x rest (r .makes ∙ ap (behind (take n out)) m) h }
+pub reads-start : (said : Option (List ℕ)) (found : List ℕ) (from : ℕ) → from ≤ length found → Reads said found found from from said
+reads-start said found from h = record { done = []; makes = behind-nil said; lays = sym (laid-nil from found); ends = omega arith; inside = h }
 
-      pub reads-bad : part ≡ none → all ≡ none
-      reads-bad q = reads-none (e ∙ ap (λ u. also u rest) q)
+module _ {said : Option (List ℕ)} {found out : List ℕ} {from n : ℕ} {left : Option (List ℕ)} (r : Reads said found out from n left) where
+  -- nothing is said, whatever was read
+  pub reads-none : left ≡ none → Unfilled from found out said
+  unfolding behind
+  reads-none e =
+      record { is = r .makes ∙ rw e; kept = ap (take from) (r .lays) ∙ laid-kept from (r .done) found (omega (arith, r .ends, r .inside)) }
 
-    pub reads-end : left ≡ some [] → all ≡ some (take n out)
-    reads-end e = r .makes ∙ rw e (ap some (append-nil (take n out)))
+  module _ (part : Option ℕ) (rest : Option (List ℕ)) (e : left ≡ also part rest) where
+    pub reads-bad : part ≡ none → Unfilled from found out said
+    reads-bad q = reads-none (e ∙ ap (λ u. also u rest) q)
 
--- what was read, and what was not
-module _ (from most : ℕ) (found out : List ℕ) {said : Option (List ℕ)} where
-  pub fills-not : behind (take from found) said ≡ none → Fills Malformed from most found out said
-  fills-not e = record { is = sym e; inside = omega arith; short = omega arith }
+    -- the next part says x
+    pub reads-next : {x : ℕ} → part ≡ some x → n < length found → Reads said found (set out n x) from (n + 1) rest
+    reads-next {x} q h =
+        let k : from + length (r .done) ≤ length found = omega (arith, r .ends, r .inside) in
+        let l : length out ≡ length found = ap length (r .lays) ∙ length-laid from (r .done) found k in
+        record {
+          done = r .done ++ (x ∷ []);
+          makes = r .makes ∙ ap (behind (r .done)) (e ∙ ap (λ u. also u rest) q) ∙ behind-next (r .done) x rest;
+          lays =
+              laid-set n x out (omega arith) ∙ ap (laid n (x ∷ [])) (r .lays)
+              ∙ ap (λ m. laid m (x ∷ []) (laid from (r .done) found)) (r .ends)
+              ∙ laid-laid from (r .done) (x ∷ []) found k;
+          ends = omega (arith, r .ends, length-append (r .done) (x ∷ []));
+          inside = omega arith;
+        }
 
-  pub unsaid : said ≡ none → Fills Malformed from most found out said
-  unsaid e = fills-not (rw e)
+  pub reads-end : {most : ℕ} → left ≡ some [] → n ≤ from + most → Filling n from most found out said
+  unfolding behind
+  reads-end e h = record {
+    of = r .done;
+    is = r .makes ∙ rw e (ap some (append-nil (r .done)));
+    lays = r .lays;
+    ends = r .ends;
+    inside = r .inside;
+    short = h;
+  }
 
-  pub fills-upto : (n : ℕ) → behind (take from found) said ≡ some (take n out) → n ≤ length out → n ≤ from + most
-      → Fills (Upto n) from most found out said
-  fills-upto n e h k = record { is = sym e; inside = h; short = k }
+-- nothing was written, and nothing is said, or the empty list
+pub unsaid : {A : Type 0} (from : ℕ) (found : List ℕ) {said : Option A} → said ≡ none → Unfilled from found found said
+unsaid from found e = record { is = e; kept = refl }
 
-  pub fills-said : (n : ℕ) (x : List ℕ) → said ≡ some x → take n out ≡ take from found ++ x → n ≤ length out → n ≤ from + most
-      → Fills (Upto n) from most found out said
-  fills-said n x e t h k = fills-upto n (rw e (ap some (sym t))) h k
+pub empty-said : (from most : ℕ) (found : List ℕ) {said : Option (List ℕ)} → said ≡ some [] → from ≤ length found
+    → Filling from from most found found said
+empty-said from most found e h =
+    record { of = []; is = e; lays = sym (laid-nil from found); ends = omega arith; inside = h; short = omega arith }
 
 -- ---- a name
 
@@ -253,10 +279,6 @@ pub dotted-dash : (w : List ℕ) → same w dash ≡ true → dotted w ≡ some 
 unfolding dotted
 dotted-dash w h = rw h
 
--- `-` is the empty one
-pub dash-fills : (from most : ℕ) (found : List ℕ) {said : Option (List ℕ)} → said ≡ some [] → from ≤ length found → Fills (Upto from) from most found found said
-dash-fills from most found e h = fills-upto from most found found from (rw e (ap some (append-nil (take from found)))) h (omega arith)
-
 pub dotted-some : (w : List ℕ) → same w dash ≡ false → dotted w ≡ decimals (split 46 w)
 unfolding dotted
 dotted-some w h = rw h
@@ -286,23 +308,7 @@ part-some w at end x e =
     let z : _≡_ {A = ℕ} 0 1 = cc in
     absurd (omega arith))
 
--- ---- tests on octets
-
-and-true : (b : Bool) → b && true ≡ b
-and-true true = refl
-and-true false = refl
-
-pub dash-one : (w : List ℕ) → length w ≡ 1 → eqb (getD w 0 0) 45 ≡ same w dash
-unfolding same
-dash-one [] h = absurd (omega arith)
-dash-one (c ∷ []) h = sym (and-true (eqb c 45))
-dash-one (c ∷ d ∷ cs) h = absurd (omega arith)
-
-pub dash-other : (w : List ℕ) → (length w ≡ 1 → ⊥) → false ≡ same w dash
-unfolding same
-dash-other [] h = refl
-dash-other (c ∷ []) h = absurd (h refl)
-dash-other (c ∷ d ∷ cs) h = sym (and-false-right (eqb c 45) refl)
+-- ---- hex digits
 
 -- a hex digit says less than 16
 pub hex-below : (c x : ℕ) → hexDigit c ≡ some x → x < 16
@@ -331,46 +337,5 @@ number-is x e q = sym q ∙ ap numberOf e
 pub number-bad : {r : Number} {o : Option ℕ} → r ≡ Bad → numberOf r ≡ o → o ≡ none
 number-bad e q = sym q ∙ ap numberOf e
 
--- what was read into a buffer
 pub never : {P A : Type 0} {x : A} → none ≡ some x → P
 never {P} {A} {x} e = let z : _≡_ {A = ℕ} 0 1 = cc in absurd (omega arith)
-
-pub record Filling (n from : ℕ) (found out : List ℕ) (said : Option (List ℕ)) : Type 0 where
-  pub of : List ℕ
-  pub is : said ≡ some of
-  pub front-is : take n out ≡ take from found ++ of
-  pub ends : n ≡ from + length of
-  pub inside : n ≤ length out
-
-module _ {from most : ℕ} {found out : List ℕ} where
-  upto-by : (n : ℕ) (said : Option (List ℕ)) → Fills (Upto n) from most found out said → from ≤ length found → Filling n from found out said
-  upto-by n none f h = never (sym (f .is))
-  upto-by n (some x) f h =
-      let q : take n out ≡ take from found ++ x = cc (f .is) in
-      let a = length-take-le n out (f .inside) in
-      let b = length-take-le from found h in
-      record { of = x; is = refl; front-is = q; ends = omega (arith, simp length-append at (ap length q)); inside = f .inside }
-
-  module _ {filled : Filled} {said : Option (List ℕ)} (f : Fills filled from most found out said) where
-    pub filled-upto : {n : ℕ} → filled ≡ Upto n → from ≤ length found → Filling n from found out said
-    filled-upto {n} e h = upto-by n said (rw (← e) f) h
-
-    pub filled-short : {n : ℕ} → filled ≡ Upto n → n ≤ from + most
-    filled-short e = rw e at (f .short)
-
-    pub filled-not : filled ≡ Malformed → said ≡ none
-    filled-not e = not-by said (rw (← e) f)
-      where
-        not-by : (said : Option (List ℕ)) → Fills Malformed from most found out said → said ≡ none
-        not-by none g = refl
-        not-by (some x) g = never (g .is)
-
--- what was read into a buffer from its front on
-pub record Whole (n : ℕ) (out : List ℕ) (said : Option (List ℕ)) : Type 0 where
-  pub is : said ≡ some (take n out)
-  pub size : length (take n out) ≡ n
-
-pub filled-whole : {filled : Filled} {most : ℕ} {found out : List ℕ} {said : Option (List ℕ)} {n : ℕ} → Fills filled 0 most found out said
-    → filled ≡ Upto n → Whole n out said
-filled-whole {filled} {most} {found} {out} f e =
-    let g = filled-upto f e (omega arith) in record { is = g .is ∙ ap some (sym (g .front-is)); size = length-take-le _ out (g .inside) }

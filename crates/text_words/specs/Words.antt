@@ -2,11 +2,12 @@
 -- Octets are ASCII: 32 space, 45 `-`, 46 `.`, 48 to 57 the digits. Assumes nothing.
 use mathlib.Core.Path.{_≡_}
 use mathlib.Core.Bool.{cond}
-use mathlib.Core.List.{List, [], _∷_, _++_}
-use mathlib.Core.Option.{Option, none, some, Option·map}
+use mathlib.Core.List.{List, [], _∷_}
+use mathlib.Core.Option.{Option, none, some}
 use Prim.Native.Nat.{ℕ, suc, _+_, _-_, _*_, _≤_}
 use lib.Dec.{eqb, ltb, leb}
 use lib.ListN.{length, take, drop}
+use Rattle.numbers.specs.Laid.{laid}
 use Rattle.numbers.specs.Order.{same}
 use Rattle.rows.specs.Fields.{within}
 use Rattle.text_words.specs.declared.Word.{Word}
@@ -122,22 +123,22 @@ decimals (p ∷ ps) = also (decimal p) (decimals ps)
 unfoldable pub dotted : List ℕ → Option (List ℕ)
 dotted word = cond (same word dash) (some []) (decimals (split 46 word))
 
--- ---- what the code reads into a lent buffer, behind what stands at its front
+-- ---- what the code reads into a lent buffer
 
-abbrev pub upto : Filled → ℕ
-upto (Upto n) = n
-upto Malformed = 0
+-- what is said was laid into `found` from `from` on, up to n, of `most` elements at most, and nothing else changed
+pub record Filling (n from most : ℕ) (found out : List ℕ) (said : Option (List ℕ)) : Type 0 where
+  pub of : List ℕ
+  pub is : said ≡ some of
+  pub lays : out ≡ laid from of found
+  pub ends : n ≡ from + length of
+  pub inside : n ≤ length found
+  pub short : n ≤ from + most
 
-abbrev pub front : Filled → List ℕ → Option (List ℕ)
-front (Upto n) out = some (take n out)
-front Malformed out = none
+-- nothing is said, and the first `from` stay
+pub record Unfilled {A : Type 0} (from : ℕ) (found out : List ℕ) (said : Option A) : Type 0 where
+  pub is : said ≡ none
+  pub kept : take from out ≡ take from found
 
--- what stands in front, if anything is said
-abbrev pub behind : List ℕ → Option (List ℕ) → Option (List ℕ)
-behind xs o = Option·map (λ ys. xs ++ ys) o
-
--- of `found` the first `from` stay, and what is said stands behind them, `most` at most
-pub record Fills (filled : Filled) (from most : ℕ) (found out : List ℕ) (said : Option (List ℕ)) : Type 0 where
-  pub is : front filled out ≡ behind (take from found) said
-  pub inside : upto filled ≤ length out
-  pub short : upto filled ≤ from + most
+abbrev pub Fills : Filled → (from most : ℕ) (found out : List ℕ) → Option (List ℕ) → Type 0
+Fills (Upto n) from most found out said = Filling n from most found out said
+Fills Malformed from most found out said = Unfilled from found out said

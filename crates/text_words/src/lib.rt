@@ -2,8 +2,7 @@
 ghost use mathlib.Core.Path.{_≡_};
 ghost use Prim.Native.Nat.{_+_, _≤_};
 ghost use lib.ListN.{length};
-ghost use Rattle.numbers.specs.Order.{same};
-ghost use Rattle.text_words.specs.Words.{Ends, words, wordAt, place, dash, hexDigit, hexPair, hexOctets, numberOf, Fills, decimal as Words·decimal};
+ghost use Rattle.text_words.specs.Words.{Ends, words, wordAt, place, hexDigit, hexPair, hexOctets, numberOf, Fills, decimal as Words·decimal};
 ghost use Rattle.text_words.specs.Words.{dotted as Words·dotted};
 
 // The longest line, in octets, its newline not counted.
@@ -89,15 +88,6 @@ pub fn decimal(word: &[u8]) -> Number
     Number::Of(n as u32)
 }
 
-fn is_dash(word: &[u8]) -> bool
-    ensures { λ r. ⌜ r ≡ same (now (word .entry)) dash ⌝ }
-{
-    if word.len() == 1 {
-        return word[0] == b'-';
-    }
-    false
-}
-
 fn hex_digit(c: u8) -> Number
     ensures { λ r. ⌜ numberOf r ≡ hexDigit c ⌝ }
 {
@@ -134,7 +124,7 @@ pub fn hex_octets(word: &[u8], out: &mut [u8], from: usize) -> Filled
     if word.len() == 0 {
         return Filled::Malformed;
     }
-    if is_dash(word) {
+    if octets::are_same(word, b"-") {
         return Filled::Upto(from);
     }
     let mut i = 0;
@@ -159,7 +149,7 @@ pub fn dotted(word: &[u8], out: &mut [u32], from: usize) -> Filled
     requires { ⌜ from + length (now word) ≤ length (now out) ⌝ }
     ensures { λ r. ⌜ Fills r from (length (now (word .entry))) (now (out .entry)) (now (out .exit)) (Words·dotted (now (word .entry))) ⌝ }
 {
-    if is_dash(word) {
+    if octets::are_same(word, b"-") {
         return Filled::Upto(from);
     }
     let mut at = 0;

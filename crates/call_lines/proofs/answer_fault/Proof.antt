@@ -1,68 +1,58 @@
 -- The line is put part by part: what is left of it still fits, and with the newline nothing is left. Assumes nothing.
 use mathlib.Core.List.{[], _∷_, _++_}
-use Rattle.text_values.specs.Texts.{decimalText}
-use Rattle.text_values.proofs.Puts.{start as begun, room, step, last}
-use Rattle.call_answers.specs.Answers.{faultText}
-use Rattle.call_answers.proofs.Shown.{shown, begun-fits}
-use Rattle.call_lines.proofs.Lines.{refusal-fits}
+use native.Mathlib.Omega.{arith}
 use borrow.Author.Needs.{needs}
+use Rattle.text_values.specs.Texts.{decimalText}
+use Rattle.text_values.proofs.Digits.{length-decimal}
+use Rattle.text_values.proofs.Puts.{Onward, start as begun, room, step, last}
+use Rattle.call_answers.specs.Answers.{faultText}
+use Rattle.call_answers.proofs.Shown.{shown}
+use Rattle.call_lines.specs.Plays.{lineText}
+use Rattle.call_lines.proofs.Lines.{refusal-fits}
 use Rattle.call_lines.proofs.answer_fault.Statement.{statement}
 use Rattle.call_lines.proofs.answer_fault.Tie as tie
 
+-- what is left behind the 0 and the space, and behind the fault
+spaced : (c : tie.After-put-octet) → let a = c .before .before .before .before .before .before .before .args in
+    Onward (lineText 0 (faultText (a .f))) 0 (a .out .now) (faultText (a .f) ++ (10 ∷ [])) (c .put-octet .result) (c .put-octet .last .0)
+spaced c =
+    let d = c .before .before .before .before in
+    let s = d .before .before .before in
+    let rest = faultText (s .args .f) ++ (10 ∷ []) in
+    step (32 ∷ []) rest
+    (step (decimalText 0) (32 ∷ rest) (begun (refusal-fits (s .args .f) (s .args .out .now) (s .pre))) (d .put-decimal .ensures))
+    (c .put-octet .ensures)
+
+told : (c : tie.After-put-decimal2) → let a = c .before .before .before .before .before .before .before .before .before .before .before .before .args in
+    Onward (lineText 0 (faultText (a .f))) 0 (a .out .now) (10 ∷ []) (c .put-decimal2 .result) (c .put-decimal2 .last .0)
+told c =
+    let o = c .before .before .before .before .before in
+    let a = o .before .before .before .before .before .before .before .args in
+    step (faultText (a .f)) (10 ∷ []) (spaced o) (rw (c .before .fault-number .ensures) at (c .put-decimal2 .ensures))
+
 put-decimal-requires : tie.Need-put-decimal-requires
-put-decimal-requires c κs =
-    let a = c .before .before .args in
-    let whole = refusal-fits (a .f) (a .out .now) (c .before .before .pre) in
-    begun-fits (decimalText 0) (32 ∷ (faultText (a .f) ++ (10 ∷ []))) (a .out .now) whole
+put-decimal-requires c κs = omega (arith, length-decimal 0, c .before .before .pre)
 
 put-octet-requires : tie.Need-put-octet-requires
-put-octet-requires c κs =
-    let at-put-decimal = c .before .before .before in
-    let start = at-put-decimal .before .before .before in
-    let a = start .args in
-    let whole = refusal-fits (a .f) (a .out .now) (start .pre) in
-    let i = step (decimalText 0) (32 ∷ (faultText (a .f) ++ (10 ∷ []))) (begun whole) (at-put-decimal .put-decimal .ensures) in
-    room (32 ∷ []) (faultText (a .f) ++ (10 ∷ [])) i
+put-octet-requires c κs = let d = c .before .before .before in
+    let s = d .before .before .before in
+    let rest = faultText (s .args .f) ++ (10 ∷ []) in
+    room (32 ∷ []) rest
+    (step (decimalText 0) (32 ∷ rest) (begun (refusal-fits (s .args .f) (s .args .out .now) (s .pre))) (d .put-decimal .ensures))
 
 put-decimal-requires-2 : tie.Need-put-decimal-requires-2
-put-decimal-requires-2 c κs =
-    let at-put-octet = c .before .before .before .before in
-    let at-put-decimal = at-put-octet .before .before .before .before in
-    let start = at-put-decimal .before .before .before in
-    let a = start .args in
-    let whole = refusal-fits (a .f) (a .out .now) (start .pre) in
-    let i = step (decimalText 0) (32 ∷ (faultText (a .f) ++ (10 ∷ []))) (begun whole) (at-put-decimal .put-decimal .ensures) in
-    let j = step (32 ∷ []) (faultText (a .f) ++ (10 ∷ [])) i (at-put-octet .put-octet .ensures) in
-    rw (c .fault-number .ensures) (room (faultText (a .f)) (10 ∷ []) j)
+put-decimal-requires-2 c κs = let o = c .before .before .before .before in
+    let a = o .before .before .before .before .before .before .before .args in
+    rw (c .fault-number .ensures) (room (faultText (a .f)) (10 ∷ []) (spaced o))
 
 put-octet-requires-2 : tie.Need-put-octet-requires-2
-put-octet-requires-2 c κs =
-    let at-put-decimal2 = c .before .before .before in
-    let at-fault-number = at-put-decimal2 .before in
-    let at-put-octet = at-fault-number .before .before .before .before in
-    let at-put-decimal = at-put-octet .before .before .before .before in
-    let start = at-put-decimal .before .before .before in
-    let a = start .args in
-    let whole = refusal-fits (a .f) (a .out .now) (start .pre) in
-    let i = step (decimalText 0) (32 ∷ (faultText (a .f) ++ (10 ∷ []))) (begun whole) (at-put-decimal .put-decimal .ensures) in
-    let j = step (32 ∷ []) (faultText (a .f) ++ (10 ∷ [])) i (at-put-octet .put-octet .ensures) in
-    let k = step (faultText (a .f)) (10 ∷ []) j (rw (at-fault-number .fault-number .ensures) at (at-put-decimal2 .put-decimal2 .ensures)) in
-    k .fits
+put-octet-requires-2 c κs = told (c .before .before .before) .fits
 
 returns : tie.Need-returns
-returns c =
-    let at-put-octet2 = c .before .before in
-    let at-put-decimal2 = at-put-octet2 .before .before .before .before in
-    let at-fault-number = at-put-decimal2 .before in
-    let at-put-octet = at-fault-number .before .before .before .before in
-    let at-put-decimal = at-put-octet .before .before .before .before in
-    let start = at-put-decimal .before .before .before in
-    let a = start .args in
-    let whole = refusal-fits (a .f) (a .out .now) (start .pre) in
-    let i = step (decimalText 0) (32 ∷ (faultText (a .f) ++ (10 ∷ []))) (begun whole) (at-put-decimal .put-decimal .ensures) in
-    let j = step (32 ∷ []) (faultText (a .f) ++ (10 ∷ [])) i (at-put-octet .put-octet .ensures) in
-    let k = step (faultText (a .f)) (10 ∷ []) j (rw (at-fault-number .fault-number .ensures) at (at-put-decimal2 .put-decimal2 .ensures)) in
-    shown whole (last (10 ∷ []) k (at-put-octet2 .put-octet2 .ensures))
+returns c = let n = c .before .before in
+    let d = n .before .before .before .before in
+    let s = d .before .before .before .before .before .before .before .before .before .before .before .before in
+    shown (refusal-fits (s .args .f) (s .args .out .now) (s .pre)) (last (10 ∷ []) (told d) (n .put-octet2 .ensures))
 
 pub answer-fault-spec : {M : Type 1} → statement M
 answer-fault-spec =

@@ -3,7 +3,7 @@ use mathlib.Core.Path.{_≡_}
 use native.Mathlib.Omega.{arith}
 use borrow.Author.Needs.{needs}
 use Rattle.line_fields.specs.Slots.{slotIn}
-use Rattle.call_lines.proofs.Plays.{shows-instance}
+use Rattle.call_lines.proofs.Plays.{told-instance}
 use Rattle.call_lines.proofs.encode.Statement.{statement}
 use Rattle.call_lines.proofs.encode.Tie as tie
 
@@ -11,13 +11,14 @@ number-in-requires : tie.Need-number-in-requires
 number-in-requires c κs = c .before .before .before .before .before .pre .0 .within 0 (omega arith)
 
 octets-in-requires : tie.Need-octets-in-requires
-octets-in-requires c κs = c .before .before .before .before .before .before .pre .0 .within 1 (omega arith)
+octets-in-requires c κs = c .before .before .before .before .before .before .before .pre .0 .within 1 (omega arith)
 
 returns : tie.Need-returns
 returns c = let t = c .before .before in
-    let o = t .before .before in
-    let n = o .before in
-    shows-instance (slotIn (n .before .before .before .before .before .before .args .t1) 1 .table) (n .number-in .ensures) (o .octets-in .ensures) (t .tell-encoded .ensures)
+    let o = t .before in
+    let n = o .before .before in
+    let s = n .before .before .before .before .before .before in
+    told-instance (slotIn (s .args .t1) 1 .table) (n .number-in .ensures) (o .octets-in .ensures) (t .tell-encoded .ensures)
 
 pub encode-spec : {M : Type 1} → statement M
 encode-spec =

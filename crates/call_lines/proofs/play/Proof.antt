@@ -6,10 +6,12 @@ use Rattle.call_lines.proofs.play.Statement.{statement}
 use Rattle.call_lines.proofs.play.Tie as tie
 
 play-call-requires : tie.Need-play-call-requires
-play-call-requires c κs = let r = c .before .before .before .before .before .before .before in (call-fit (r .read-call .ensures), r .before .before .before .before .before .before .pre)
+play-call-requires c κs = let r = c .before .before .before .before .before .before .before in
+    (call-fit (r .read-call .ensures), r .before .before .before .before .before .before .pre)
 
 returns : tie.Need-returns
-returns c = let p = c .before .before .before .before in plays-as (call-held (p .before .before .before .before .before .before .before .before .read-call .ensures)) (p .play-call .ensures)
+returns c = let p = c .before .before .before .before in
+    plays-as (call-held (p .before .before .before .before .before .before .before .before .read-call .ensures)) (p .play-call .ensures)
 
 pub play-spec : {M : Type 1} → statement M
 play-spec =

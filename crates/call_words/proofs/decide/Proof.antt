@@ -26,7 +26,8 @@ octets-in-requires-2 : tie.Need-octets-in-requires-2
 octets-in-requires-2 c κs = c .before .before .before .before .before .before .before .before .before .before .before .before .pre .within 4 (omega arith)
 
 identifier-in-requires : tie.Need-identifier-in-requires
-identifier-in-requires c κs = c .before .before .before .before .before .before .before .before .before .before .before .before .before .before .pre .within 5 (omega arith)
+identifier-in-requires c κs =
+    c .before .before .before .before .before .before .before .before .before .before .before .before .before .before .pre .within 5 (omega arith)
 
 returns : tie.Need-returns
 returns c = let a = c .before in

@@ -1,57 +1,40 @@
--- `line_fields::edit` meets its contract: the operation's word, and what it is handed behind it. Assumes nothing.
+-- `line_fields::edit` meets its contract: the word's place among the operations' words is the operation's, which is handed the rest. Assumes nothing.
+use mathlib.Core.Logic.{⊎-elim}
 use mathlib.Core.Option.{some}
-use mathlib.Core.Path.{_≡_, sym, ap, _∙_}
+use mathlib.Core.Path.{_≡_, sym, _∙_}
 use native.Mathlib.Omega.{arith}
 use borrow.Author.Needs.{needs}
-use Rattle.text_words.specs.Words.{between}
-use Rattle.text_words.proofs.WordsFrom.{WordAt, word-missing, word-found}
-use Rattle.line_fields.specs.Kinds.{operationNamed, kindSaid}
-use Rattle.line_fields.specs.Slots.{named}
-use Rattle.line_fields.proofs.FieldSlots.{rest-room, edit-missing, edit-other, edit-finds}
+use Rattle.text_words.specs.Words.{split, place}
+use Rattle.text_words.proofs.Named.{wordsOf, named-at, named-none}
+use Rattle.text_words.proofs.Words.{unsaid}
+use Rattle.line_fields.specs.Kinds.{operationWord, operations, operationNamed}
+use Rattle.line_fields.proofs.FieldSlots.{entry-finds, edit-named, edit-other}
 use Rattle.line_fields.proofs.edit.Statement.{statement}
 use Rattle.line_fields.proofs.edit.Tie as tie
 
-abbrev start : tie.After-known-told → tie.Start
-start c = c .before .before .before .before .before .before
+-- the place that was found
+found : (c : tie.After-place-of) → c .place-of .result ≡ place (c .before .before .before .before .before .args .word .now) (wordsOf operationWord operations)
+unfolding split
+found c = c .place-of .ensures
 
-found : (c : tie.After-known-told) → WordAt (start c .args .at) (start c .args .line .now) (c .before .end .given .0 .0)
-found c = word-found _ _ (sym (c .before .before .before .word-at .ensures) ∙ c .before .end .given .1)
+-- the operation that the word names
+named : (c : tie.At-match-came) → some (c .match .operation) ≡ operationNamed (c .before .before .before .before .before .before .args .word .now)
+unfolding operationNamed
+named c =
+    ⊎-elim (λ w. rw (w .1) (named-at operationWord _ operations 0 (sym (w .0 .keys1) ∙ found (c .before))))
+    (λ w. rw (w .1) (named-at operationWord _ operations 1 (sym (w .0 .keys2) ∙ found (c .before))))
+    (c .match .came)
 
 returns : tie.Need-returns
-unfolding kindSaid
-returns c = edit-missing _ _ (word-missing _ _ (sym (c .before .before .word-at .ensures) ∙ c .enum-told .given .1))
-
-sub-operation-named : tie.Need-sub-operation-named
-sub-operation-named c = omega (arith, found c .forward)
-
-part-operation-named-start : tie.Need-part-operation-named-start
-part-operation-named-start c = found c .forward
-
-part-operation-named-end : tie.Need-part-operation-named-end
-part-operation-named-end c = found c .inside
+unfolding operationNamed
+returns c = unsaid _ _ (edit-other _ _ (named-none operationWord _ operations (c .before .place-of .result) (found (c .before)) (omega arith)))
 
 returns-2 : tie.Need-returns-2
-unfolding kindSaid
-returns-2 c = let k = c .before .before .before .before in
-    edit-other (found k) (sym (c .before .before .operation-named .ensures) ∙ ap named (c .enum-told2 .given .1))
-
-add-entered : tie.Need-add-entered
-add-entered c = omega (arith, found (c .before .before .before .before .before) .inside)
-
-entered-requires : tie.Need-entered-requires
-entered-requires c κs = let k = c .before .before .before .before .before .before in rest-room (found k) (start k .pre)
-
-returns-3 : tie.Need-returns-3
-unfolding kindSaid
-returns-3 c = let r = c .before .before in
-    let d = r .before .before in
-    let k = d .before .before .before .before .before in
-    edit-finds (found k) (sym (d .before .before .before .operation-named .ensures) ∙ ap named (d .before .o .given .1))
-    (r .entered .result) (start k .args .from) (start k .args .bytes .now) (r .entered .last .1 .1 .1 .0) (r .entered .ensures)
+returns-2 c = let e = c .before .before in
+    let m = e .before .before in
+    rw (edit-named _ _ (named m)) (entry-finds (m .match .operation) (e .entry .result) _ _ _ _ (e .entry .ensures))
 
 pub edit-spec : {M : Type 1} → statement M
 edit-spec =
     tie.close
-    (tie.spec (λ c κs. search needs) (λ c. search needs) (λ c. search needs) returns sub-operation-named part-operation-named-start
-    part-operation-named-end (λ c κs. search needs) (λ c. search needs) (λ c. search needs) returns-2 add-entered entered-requires
-    (λ c. search needs) returns-3)
+    (tie.spec (λ c. search needs) (λ c κs. search needs) returns (λ c. search needs) (λ c κs. search needs) (λ c. search needs) returns-2)

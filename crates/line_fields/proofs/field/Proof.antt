@@ -1,34 +1,97 @@
 -- `line_fields::field` meets its contract: in each arm the kind is known, and so are its buffer and what it says. Assumes nothing.
-use mathlib.Core.Path.{_≡_, refl}
+use mathlib.Core.Bool.{true, false}
+use mathlib.Core.Path.{_≡_, refl, sym, _∙_}
+use native.Mathlib.Omega.{arith}
 use borrow.Author.Needs.{needs}
-use Rattle.line_fields.specs.Kinds.{kindSaid}
+use Rattle.rows.specs.declared.Operation.the-variants.{Remove}
+use Rattle.text_words.specs.Words.{hexOctets, dotted}
+use Rattle.text_words.proofs.Words.{unsaid}
+use Rattle.text_words.proofs.WordsFrom.{WordAt, word-missing, word-found}
+use Rattle.line_fields.specs.Kinds.{number, kindSaid}
+use Rattle.line_fields.proofs.FieldSlots.{bytes-roomy, none-said, word-room, lent-behind, word-finds, entry-finds, edit-finds}
 use Rattle.line_fields.proofs.field.Statement.{statement}
 use Rattle.line_fields.proofs.field.Tie as tie
 
+abbrev start : tie.After-known-told → tie.Start
+start c = c .before .before .before .before .before .before .before
+
+-- the first word
+found : (c : tie.After-known-told) → WordAt (start c .args .at) (start c .args .line .now) (c .before .end .given .0 .0)
+found c = word-found _ _ (sym (c .before .before .before .word-at .ensures) ∙ c .before .end .given .1)
+
 returns : tie.Need-returns
-returns c = rw (c .before .before .before .before .enum-told .given .1) (record { finds = c .before .before .number .ensures; other = refl })
+returns c = record {
+  finds =
+      unsaid _ _
+      (none-said (c .before .before .before .before .before .before .args .k) _ _
+      (word-missing _ _ (sym (c .before .before .word-at .ensures) ∙ c .enum-told .given .1)));
+  other = refl;
+}
+
+sub-word : tie.Need-sub-word
+sub-word c = found c .forward
+
+part-word-start : tie.Need-part-word-start
+part-word-start c = found c .forward
+
+part-word-end : tie.Need-part-word-end
+part-word-end c = found c .inside
+
+add-next : tie.Need-add-next
+add-next c = omega (arith, found (c .before) .inside)
+
+number-requires : tie.Need-number-requires
+number-requires c κs = let k = c .before .before .before .before in omega (arith, word-room (found k) true (start k .pre))
+
+hex-octets-requires : tie.Need-hex-octets-requires
+hex-octets-requires c κs = let k = c .before .before .before .before in omega (arith, word-room (found k) false (start k .pre))
+
+dotted-requires : tie.Need-dotted-requires
+dotted-requires c κs = let k = c .before .before .before .before in omega (arith, word-room (found k) true (start k .pre))
+
+entry-requires : tie.Need-entry-requires
+entry-requires c κs = bytes-roomy (start (c .before .before .before .before) .pre)
+
+edit-requires : tie.Need-edit-requires
+edit-requires c κs = let k = c .before .before .before .before in bytes-roomy (lent-behind (found k) (start k .pre))
 
 returns-2 : tie.Need-returns-2
-returns-2 c = rw (c .before .before .before .before .enum-told2 .given .1) (record { finds = c .before .before .name .ensures; other = refl })
+unfolding kindSaid
+returns-2 c = let f = c .before .before .before in
+    let k = f .before .before .before .before .before in
+    rw (f .before .before .enum-told2 .given .1, c .one-word .ensures)
+    (record { finds = word-finds (found k) number (f .number .result) _ _ (f .number .ensures) (omega arith); other = refl })
 
 returns-3 : tie.Need-returns-3
-returns-3 c = rw (c .before .before .before .before .enum-told3 .given .1) (record { finds = c .before .before .identifier .ensures; other = refl })
+unfolding kindSaid
+returns-3 c = let f = c .before .before .before in
+    let k = f .before .before .before .before .before in
+    rw (f .before .before .enum-told3 .given .1, c .one-word2 .ensures)
+    (record { finds = word-finds (found k) hexOctets (f .hex-octets .result) _ _ (f .hex-octets .ensures) (omega arith); other = refl })
 
 returns-4 : tie.Need-returns-4
 unfolding kindSaid
-returns-4 c = rw (c .before .before .before .before .enum-told4 .given .1) (record { finds = c .before .before .entered .ensures; other = refl })
+returns-4 c = let f = c .before .before .before in
+    let k = f .before .before .before .before .before in
+    rw (f .before .before .enum-told4 .given .1, c .one-word3 .ensures)
+    (record { finds = word-finds (found k) dotted (f .dotted .result) _ _ (f .dotted .ensures) (omega arith); other = refl })
 
 returns-5 : tie.Need-returns-5
 unfolding kindSaid
-returns-5 c = rw (c .before .before .before .before .enum-told5 .given .1) (record { finds = c .before .before .entered2 .ensures; other = refl })
+returns-5 c = let f = c .before .before in
+    rw (f .before .before .enum-told5 .given .1) (record { finds = entry-finds Remove (f .entry .result) _ _ _ _ (f .entry .ensures); other = refl })
 
 returns-6 : tie.Need-returns-6
-returns-6 c = rw (c .before .before .before .before .enum-told6 .given .1) (record { finds = c .before .before .edit .ensures; other = refl })
+unfolding kindSaid
+returns-6 c = let f = c .before .before in
+    let k = f .before .before .before .before .before in
+    rw (f .before .before .enum-told6 .given .1) (record { finds = edit-finds (found k) (f .edit .result) _ _ (f .edit .ensures); other = refl })
 
 pub field-spec : {M : Type 1} → statement M
 field-spec =
     tie.close
-    (tie.spec (λ c. search needs) (λ c κs. search needs) (λ c. search needs) (λ c κs. search needs) (λ c. search needs)
-    (λ c κs. search needs) (λ c. search needs) (λ c κs. search needs) (λ c. search needs) (λ c κs. search needs)
-    (λ c. search needs) (λ c κs. search needs) (λ c. search needs) returns (λ c. search needs) returns-2 (λ c. search needs)
-    returns-3 (λ c. search needs) returns-4 (λ c. search needs) returns-5 (λ c. search needs) returns-6)
+    (tie.spec (λ c κs. search needs) (λ c. search needs) (λ c. search needs) returns sub-word part-word-start part-word-end (λ c. search needs)
+    add-next (λ c. search needs) number-requires (λ c κs. search needs) (λ c. search needs) hex-octets-requires (λ c κs. search needs)
+    (λ c. search needs) dotted-requires (λ c κs. search needs) (λ c. search needs) entry-requires (λ c. search needs) edit-requires
+    (λ c. search needs) returns-2 (λ c. search needs) returns-3 (λ c. search needs) returns-4 (λ c. search needs) returns-5
+    (λ c. search needs) returns-6)

@@ -10,7 +10,6 @@ use Rattle.rows.specs.Rows.{rowFields}
 use Rattle.rows.specs.Forms.{fieldIn}
 use Rattle.rows.proofs.Forms.{field-here, fields-gone}
 use Rattle.text_words.specs.Words.{between, wordsFrom, Fills}
-use Rattle.text_words.proofs.Words.{filled-upto, filled-short, filled-not}
 use Rattle.text_words.proofs.WordsFrom.{WordAt, word-missing, word-found, word-length}
 use Rattle.text_fields.specs.FieldWords.{fieldSaid, wordBytes}
 use Rattle.text_fields.specs.RowWords.{fieldsSaid}
@@ -59,8 +58,7 @@ next c =
     let h = c .before .before .before .before .before in
     let k = h .before .before .before .before in
     let y = way (k .before .before .before .before) in
-    way-next y (found k) _ _ (filled-upto (said h) (c .before .m .given .1) (y .inside)) (filled-short (said h) (c .before .m .given .1))
-    (h .field .kept .1 .1 .0)
+    way-next y (found k) (rw (c .before .m .given .1) at (said h))
 
 loop-holds : tie.Need-loop-holds Inv-loop μ-loop
 loop-holds c = (omega arith, refl, way-start _ (c .before .before .pre .1))
@@ -87,12 +85,13 @@ field-requires c κs = let k = c .before .before .before in
     (word-room (way (k .before .before .before .before)) w, omega (arith, word-length w, w .inside, s .pre .1 .line-short))
 
 same-length-2 : tie.Need-same-length-2 Inv-loop μ-loop
-same-length-2 c = let h = c .before .before .before .before in h .field .kept .1 .1 .0 ∙ h .before .before .before .before .before .before .before .before .before .loop .inv .1
+same-length-2 c = let h = c .before .before .before .before in
+    h .field .kept .1 .1 .0 ∙ h .before .before .before .before .before .before .before .before .before .loop .inv .1
 
 returns-2 : tie.Need-returns-2 Inv-loop μ-loop
 returns-2 c = let h = c .before .before .before .before in
     let k = h .before .before .before .before in
-    way-bad (way (k .before .before .before .before)) (found k) (filled-not (said h) (c .enum-told2 .given .1))
+    way-bad (way (k .before .before .before .before)) (found k) (rw (c .enum-told2 .given .1) at (said h))
 
 add-a : tie.Need-add-a Inv-loop μ-loop
 add-a c = omega (arith, found (c .before .before .before .before .before .before .before .before .before) .inside)

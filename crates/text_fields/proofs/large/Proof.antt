@@ -1,18 +1,15 @@
 -- `text_fields::large` meets its contract: the number's four bytes. Assumes nothing.
 use mathlib.Core.Path.{_≡_, ap, _∙_}
-use Prim.Native.Nat.{_+_}
 use native.Mathlib.Omega.{arith}
-use lib.ListN.{take}
 use borrow.Author.Needs.{needs}
 use Rattle.numbers.specs.BigEndian.{quad, bytes}
-use Rattle.numbers.proofs.Laid.{take-laid}
-use Rattle.text_words.proofs.Words.{number-is, number-bad, unsaid, fills-said}
+use Rattle.text_words.proofs.Words.{number-is, number-bad, unsaid}
 use Rattle.text_fields.proofs.FieldWords.{numbered-none, numbered-some, decimal-below}
 use Rattle.text_fields.proofs.large.Statement.{statement}
 use Rattle.text_fields.proofs.large.Tie as tie
 
 returns : tie.Need-returns
-returns c = unsaid _ _ _ _ (numbered-none quad (number-bad (c .enum-told .given .1) (c .before .before .decimal .ensures)))
+returns c = unsaid _ _ (numbered-none quad (number-bad (c .enum-told .given .1) (c .before .before .decimal .ensures)))
 
 returns-2 : tie.Need-returns-2
 returns-2 c = let k = c .before .before .before .before in
@@ -20,9 +17,14 @@ returns-2 c = let k = c .before .before .before .before in
     let s = k .before .before .before .before .before .before in
     let x = k .before .x .given .0 .0 in
     let d = number-is x (k .before .x .given .1) (k .before .before .before .decimal .ensures) in
-    fills-said _ _ _ _ (s .args .from + 4) (bytes quad x) (numbered-some quad d (decimal-below (s .args .word .now) x d))
-    (ap (take (s .args .from + 4)) (w .ensures) ∙ take-laid (s .args .from) (bytes quad x) (s .args .out .now) (omega (arith, s .pre)))
-    (omega (arith, w .kept .0, s .pre)) (omega arith)
+    record {
+      of = bytes quad x;
+      is = numbered-some quad d (decimal-below (s .args .word .now) x d);
+      lays = w .ensures;
+      ends = omega arith;
+      inside = omega (arith, s .pre);
+      short = omega arith;
+    }
 
 pub large-spec : {M : Type 1} → statement M
 large-spec =

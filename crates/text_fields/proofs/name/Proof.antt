@@ -1,14 +1,14 @@
--- `text_fields::name` meets its contract: the octets are read behind the place of their count, which is put last (`head-put`). Assumes nothing.
+-- `text_fields::name` meets its contract: the octets are read behind the place of their count, which is put last (`laid-front`). Assumes nothing.
 use mathlib.Core.Path.{_≡_, ap, _∙_}
 use mathlib.Core.List.{_∷_}
-use Prim.Native.Nat.{_+_, _-_, _<_}
+use Prim.Native.Nat.{_+_, _-_}
 use native.Mathlib.Omega.{arith}
-use lib.ListN.{length, length-set}
+use lib.ListN.{length, take, set}
 use borrow.Author.Needs.{needs}
 use Rattle.numbers.specs.BigEndian.{octet, bytesOf}
-use Rattle.text_words.specs.Words.{hexOctets}
-use Rattle.text_words.proofs.Words.{Filling, filled-upto, filled-short, filled-not, unsaid, fills-said}
-use Rattle.text_fields.proofs.Buffers.{head-put, bytesOf-octet}
+use Rattle.text_words.specs.Words.{hexOctets, Filling}
+use Rattle.text_words.proofs.Kept.{kept-less, laid-kept}
+use Rattle.text_fields.proofs.Buffers.{laid-front, bytesOf-octet}
 use Rattle.text_fields.proofs.FieldWords.{counted-none, counted-over, counted-some}
 use Rattle.text_fields.proofs.name.Statement.{statement}
 use Rattle.text_fields.proofs.name.Tie as tie
@@ -18,30 +18,44 @@ start c = c .before .before .before .before .before .before .before .before .bef
 
 -- the octets read
 octets : (c : tie.After-known-told) → let h = c .before .before .before .before .before in let s = start c .args in
-    Filling (c .before .end .given .0 .0) (s .from + 1) (s .out .now) (h .hex-octets .last .1 .0) (hexOctets (s .word .now))
-octets c = filled-upto (c .before .before .before .before .before .hex-octets .ensures) (c .before .end .given .1) (omega (arith, start c .pre))
+    Filling (c .before .end .given .0 .0) (s .from + 1) (length (s .word .now)) (s .out .now) (h .hex-octets .last .1 .0) (hexOctets (s .word .now))
+octets c = rw (c .before .end .given .1) at (c .before .before .before .before .before .hex-octets .ensures)
 
 returns : tie.Need-returns
-returns c = unsaid _ _ _ _ (counted-none octet (filled-not (c .before .before .before .before .hex-octets .ensures) (c .enum-told .given .1)))
+returns c = let h = c .before .before .before .before in
+    let from = h .before .before .before .before .args .from in
+    let u = rw (c .enum-told .given .1) at (h .hex-octets .ensures) in
+    record { is = counted-none octet (u .is); kept = kept-less from (from + 1) _ _ (omega arith) (u .kept) }
 
 sub-n : tie.Need-sub-n
 sub-n c = omega (arith, octets c .ends)
 
 returns-2 : tie.Need-returns-2
-returns-2 c = let f = octets (c .before) in unsaid _ _ _ _ (counted-over octet (f .is) (omega (arith, f .ends, c .if1 .taken)))
+returns-2 c = let f = octets (c .before) in
+    let s = start (c .before) .args in
+    record {
+      is = counted-over octet (f .is) (omega (arith, f .ends, c .if1 .taken));
+      kept =
+          kept-less (s .from) (s .from + 1) _ _ (omega arith)
+          (ap (take (s .from + 1)) (f .lays) ∙ laid-kept (s .from + 1) (f .of) (s .out .now) (omega (arith, f .ends, f .inside)));
+    }
 
 returns-3 : tie.Need-returns-3
 returns-3 c = let k = c .before in
-    let h = k .before .before .before .before .before .hex-octets in
-    let s = start k in
+    let s = start k .args in
     let f = octets k in
-    let n = k .before .end .given .0 .0 in
-    let l : n - (s .args .from + 1) ≡ length (f .of) = omega (arith, f .ends) in
-    fills-said _ _ _ _ n (length (f .of) ∷ bytesOf octet (f .of)) (counted-some octet (f .is) (omega (arith, c .if1 .left)))
-    (head-put (s .args .from) n _ (s .args .out .now) (h .last .1 .0) (f .of) (f .front-is) (omega (arith, s .pre)) (omega (arith, f .ends))
-    ∙ rw (l, bytesOf-octet (f .of)))
-    (omega (arith, f .inside, length-set (h .last .1 .0) (s .args .from) (n - (s .args .from + 1))))
-    (omega (arith, filled-short (h .ensures) (k .before .end .given .1)))
+    let l : k .before .end .given .0 .0 - (s .from + 1) ≡ length (f .of) = omega (arith, f .ends) in
+    record {
+      of = length (f .of) ∷ bytesOf octet (f .of);
+      is = counted-some octet (f .is) (omega (arith, c .if1 .left));
+      lays =
+          rw (l, bytesOf-octet (f .of))
+          (ap (λ u. set u (s .from) (length (f .of))) (f .lays)
+          ∙ laid-front (s .from) (length (f .of)) (f .of) (s .out .now) (omega (arith, start k .pre)));
+      ends = omega (arith, f .ends, ap length (bytesOf-octet (f .of)));
+      inside = f .inside;
+      short = omega (arith, f .short);
+    }
 
 pub name-spec : {M : Type 1} → statement M
 name-spec =

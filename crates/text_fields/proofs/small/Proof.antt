@@ -1,23 +1,22 @@
 -- `text_fields::small` meets its contract: the number's byte, where one holds it. Assumes nothing.
 use mathlib.Core.Path.{_≡_, ap, _∙_}
-use Prim.Native.Nat.{_+_, _<_}
+use Prim.Native.Nat.{_<_}
 use native.Mathlib.Omega.{arith}
-use native.Mathlib.Numerals.{add-one}
-use lib.ListN.{length, length-set}
-use lib.Seq.{take-suc-set}
+use lib.ListN.{length}
 use borrow.Author.Needs.{needs}
 use Rattle.numbers.specs.BigEndian.{octet, bytes}
-use Rattle.text_words.proofs.Words.{number-is, number-bad, unsaid, fills-said}
+use Rattle.numbers.proofs.Laid.{laid-set}
+use Rattle.text_words.proofs.Words.{number-is, number-bad, unsaid}
 use Rattle.text_fields.proofs.FieldWords.{numbered-none, numbered-over, numbered-some}
 use Rattle.text_fields.proofs.small.Statement.{statement}
 use Rattle.text_fields.proofs.small.Tie as tie
 
 returns : tie.Need-returns
-returns c = unsaid _ _ _ _ (numbered-none octet (number-bad (c .enum-told .given .1) (c .before .before .decimal .ensures)))
+returns c = unsaid _ _ (numbered-none octet (number-bad (c .enum-told .given .1) (c .before .before .decimal .ensures)))
 
 returns-2 : tie.Need-returns-2
 returns-2 c = let k = c .before in
-    unsaid _ _ _ _
+    unsaid _ _
     (numbered-over octet (number-is (k .before .x .given .0 .0) (k .before .x .given .1) (k .before .before .before .decimal .ensures))
     (omega (arith, c .if1 .taken)))
 
@@ -27,9 +26,14 @@ returns-3 c = let k = c .before in
     let x = k .before .x .given .0 .0 in
     let d = number-is x (k .before .x .given .1) (k .before .before .before .decimal .ensures) in
     let h : s .args .from < length (s .args .out .now) = omega (arith, s .pre) in
-    fills-said _ _ _ _ (s .args .from + 1) (bytes octet x) (numbered-some octet d (omega (arith, c .if1 .left)))
-    (rw (add-one (s .args .from)) (take-suc-set (s .args .out .now) (s .args .from) x h))
-    (omega (arith, length-set (s .args .out .now) (s .args .from) x, s .pre)) (omega arith)
+    record {
+      of = bytes octet x;
+      is = numbered-some octet d (omega (arith, c .if1 .left));
+      lays = laid-set (s .args .from) x (s .args .out .now) h;
+      ends = omega arith;
+      inside = omega (arith, s .pre);
+      short = omega arith;
+    }
 
 pub small-spec : {M : Type 1} → statement M
 small-spec =

@@ -1,4 +1,4 @@
--- `text_words::dotted` meets its contract. The loop's invariant: the numbers at the buffer's front and those that the rest says make all of them (`Reads`).
+-- `text_words::dotted` meets its contract. The loop's invariant: the numbers laid and those that the rest says make all of them (`Reads`).
 -- A part that is a number has an octet, and a dot follows it, so there is room for each. The measure is what is left of the word. Assumes nothing.
 use mathlib.Core.List.{[]}
 use mathlib.Core.Option.{some}
@@ -7,41 +7,42 @@ use Prim.Native.Nat.{_+_, _-_, _*_, _≤_, _<_}
 use native.Mathlib.Omega.{arith}
 use lib.ListN.{length, take, drop, length-set}
 use borrow.Author.Needs.{needs}
-use Rattle.text_words.specs.Words.{behind, between, split, decimal, decimals, dotted}
-use Rattle.text_words.proofs.Words.{Reads, reads-start, reads-next, reads-none, reads-end, fills-not, fills-upto, dash-fills, dotted-dash, dotted-some, dots-last, dots-next, dots-bad}
-use Rattle.text_words.proofs.Words.{part-some, number-is, number-bad}
+use Rattle.text_words.specs.Words.{between, split, decimal, decimals, dotted}
+use Rattle.text_words.proofs.Words.{Reads, reads-start, reads-next, reads-none, reads-end, empty-said}
+use Rattle.text_words.proofs.Words.{dotted-dash, dotted-some, dots-last, dots-next, dots-bad, part-some, number-is, number-bad}
 use Rattle.text_words.proofs.dotted.Statement.{statement}
 use Rattle.text_words.proofs.dotted.Tie as tie
 
 abbrev Inv-loop : tie.InvT-loop
 Inv-loop word out₀ from at₀ n₀ out at n =
     (at ≤ length word) × (2 * n ≤ at + 2 * from) × (length out ≡ length out₀)
-    × Reads (behind (take from out₀) (decimals (split 46 word))) out n (decimals (split 46 (drop at word)))
+    × Reads (decimals (split 46 word)) out₀ out from n (decimals (split 46 (drop at word)))
 
 abbrev μ-loop : tie.MeasureT-loop
 μ-loop word out₀ from at₀ n₀ out at n = length word - at
 
 -- it is not `-`
-named : (c : tie.Else1 Inv-loop μ-loop) → let w = c .before .before .before .before .args .word .now in dotted w ≡ decimals (split 46 w)
-named c = dotted-some _ (sym (c .before .is-dash .ensures) ∙ c .if1 .left)
+named : (c : tie.Else1 Inv-loop μ-loop) → let w = c .before .before .before .before .before .args .word .now in dotted w ≡ decimals (split 46 w)
+named c = dotted-some _ (sym (c .before .are-same .ensures) ∙ c .if1 .left)
 
 -- what a part says, and that there is room for it
 part : (c : tie.After-known-told Inv-loop μ-loop) →
     let f = c .before .before .before .before .before in
     let l = f .before in
-    let w = l .before .before .before .before .before .args .word .now in
+    let w = l .before .before .before .before .before .before .args .word .now in
     decimal (between (l .loop .at) (f .end-of .result) w) ≡ some (c .before .x .given .0 .0)
 part c = number-is _ (c .before .x .given .1) (c .before .before .before .decimal .ensures)
 
-room : (c : tie.After-known-told Inv-loop μ-loop) → let l = c .before .before .before .before .before .before .loop in l .n < length (l .out)
+room : (c : tie.After-known-told Inv-loop μ-loop) → let l = c .before .before .before .before .before .before in
+    l .loop .n < length (l .before .before .before .before .before .before .args .out .now)
 room c =
     let f = c .before .before .before .before .before in
     let l = f .before in
     let h = part-some _ (l .loop .at) (f .end-of .result) _ (part c) in
-    omega (arith, l .before .before .before .before .before .pre, f .end-of .ensures .inside)
+    omega (arith, l .before .before .before .before .before .before .pre, f .end-of .ensures .inside)
 
 returns : tie.Need-returns Inv-loop μ-loop
-returns c = dash-fills _ _ _ (dotted-dash _ (sym (c .before .is-dash .ensures) ∙ c .if1 .taken)) (omega arith)
+returns c = empty-said _ _ _ (dotted-dash _ (sym (c .before .are-same .ensures) ∙ c .if1 .taken)) (omega arith)
 
 loop-holds : tie.Need-loop-holds Inv-loop μ-loop
 loop-holds c = (omega arith, omega arith, refl, reads-start _ _ _ (omega arith))
@@ -52,22 +53,22 @@ same-length c = c .before .before .before .before .before .loop .inv .2
 returns-2 : tie.Need-returns-2 Inv-loop μ-loop
 returns-2 c = let l = c .before .before .before .before .before in
     rw (named (l .before))
-    (fills-not _ _ _ _
     (reads-none (l .loop .inv .3)
     (dots-bad _ (l .loop .at) _ (c .before .before .before .before .end-of .ensures .ends) (c .before .before .before .before .end-of .ensures .inside)
-    (number-bad (c .enum-told .given .1) (c .before .before .decimal .ensures)))))
+    (number-bad (c .enum-told .given .1) (c .before .before .decimal .ensures))))
 
 mul-out : tie.Need-mul-out Inv-loop μ-loop
-mul-out c = omega (arith, room c, c .before .before .before .before .before .before .before .before .before .before .before .good)
+mul-out c = omega (arith, room c, c .before .before .before .before .before .before .before .before .before .before .before .before .good)
 
 slice-write-out : tie.Need-slice-write-out Inv-loop μ-loop
-slice-write-out c = room c
+slice-write-out c = omega (arith, room c, c .before .before .before .before .before .before .loop .inv .2)
 
 add-n : tie.Need-add-n Inv-loop μ-loop
 add-n c = omega (arith, room c)
 
 add-at : tie.Need-add-at Inv-loop μ-loop
-add-at c = let f = c .before .before .before .before .before in omega (arith, f .end-of .ensures .inside, f .before .before .before .before .before .before .good)
+add-at c = let f = c .before .before .before .before .before in
+    omega (arith, f .end-of .ensures .inside, f .before .before .before .before .before .before .before .good)
 
 same-length-2 : tie.Need-same-length-2 Inv-loop μ-loop
 same-length-2 c = let l = c .before .before .before .before .before .before .before .loop in length-set (l .out) (l .n) _ ∙ l .inv .2
@@ -75,15 +76,17 @@ same-length-2 c = let l = c .before .before .before .before .before .before .bef
 returns-3 : tie.Need-returns-3 Inv-loop μ-loop
 returns-3 c = let f = c .before .before .before .before .before .before in
     let l = f .before in
-    let e : f .end-of .result ≡ length (l .before .before .before .before .before .args .word .now) = omega (arith, f .end-of .ensures .inside, c .if2 .taken) in
+    let e : f .end-of .result ≡ length (l .before .before .before .before .before .before .args .word .now) =
+    omega (arith, f .end-of .ensures .inside, c .if2 .taken) in
     let g = part-some _ (l .loop .at) (f .end-of .result) _ (part (c .before)) in
     let r = reads-next (l .loop .inv .3) _ (some []) (dots-last _ (l .loop .at) _ (f .end-of .ensures .ends) e) (part (c .before)) (room (c .before)) in
-    rw (named (l .before)) (fills-upto _ _ _ _ (l .loop .n + 1) (reads-end r refl) (r .inside) (omega arith))
+    rw (named (l .before)) (reads-end r refl (omega arith))
 
 loop-again : tie.Need-loop-again Inv-loop μ-loop
 loop-again c = let f = c .before .before .before .before .before .before in
     let l = f .before in
-    let h : f .end-of .result < length (l .before .before .before .before .before .args .word .now) = omega (arith, f .end-of .ensures .inside, c .if2 .left) in
+    let h : f .end-of .result < length (l .before .before .before .before .before .before .args .word .now) =
+    omega (arith, f .end-of .ensures .inside, c .if2 .left) in
     let g = part-some _ (l .loop .at) (f .end-of .result) _ (part (c .before)) in (
       omega arith,
       omega arith,
@@ -94,6 +97,6 @@ loop-again c = let f = c .before .before .before .before .before .before in
 pub dotted-spec : {M : Type 1} → statement M
 dotted-spec =
     tie.close
-    (tie.spec Inv-loop μ-loop (λ c κs. search needs) returns loop-holds (λ c κs. search needs) (λ c. search needs)
+    (tie.spec Inv-loop μ-loop (λ c. search needs) (λ c κs. search needs) returns loop-holds (λ c κs. search needs) (λ c. search needs)
     (λ c. search needs) (λ c. search needs) (λ c κs. search needs) (λ c. search needs) (λ c. search needs) same-length returns-2
     mul-out slice-write-out add-n add-at same-length-2 returns-3 (λ c. search needs) loop-again)
