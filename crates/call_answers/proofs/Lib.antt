@@ -1,3 +1,3 @@
-pub mod Shown
+pub mod Room
 pub mod Instances
 pub mod Images

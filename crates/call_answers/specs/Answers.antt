@@ -67,8 +67,3 @@ Room at out = at + answerRoom ≤ length out
 pub record Told (text : List ℕ) (at : ℕ) (w after : List ℕ) (r : ℕ) : Type 0 where
   pub puts : Puts text at w after r
   pub short : length text ≤ answerRoom
-
--- the text at the front of the buffer, r octets of it
-pub record Shows (text out : List ℕ) (r : ℕ) : Type 0 where
-  pub is : take r out ≡ text
-  pub inside : r ≤ length out

@@ -6,15 +6,12 @@ use mathlib.Core.Option.{Option}
 use Prim.Native.Nat.{ℕ, _+_, _≤_}
 use native.Mathlib.Omega.{arith}
 use lib.ListN.{length, length-append}
-use Rattle.answers.specs.declared.Fault.{Fault}
-use Rattle.answers.specs.Numbers.{faultNumber}
 use Rattle.text_values.specs.Texts.{decimalText, Puts}
 use Rattle.text_values.proofs.Digits.{length-decimal}
 use Rattle.text_values.proofs.Puts.{Onward, start, step, last, kept}
 use Rattle.call_words.specs.Calls.{Asked}
-use Rattle.call_answers.specs.Answers.{answerRoom, faultText, Room}
-use Rattle.call_answers.proofs.Shown.{shown}
-use Rattle.call_lines.specs.Plays.{lineRoom, faultRoom, lineText, PutsPlay, ShowsLine}
+use Rattle.call_answers.specs.Answers.{answerRoom, Room}
+use Rattle.call_lines.specs.Plays.{lineRoom, lineText, PutsPlay, PutsLine}
 
 line-length : (number : ℕ) (text : List ℕ) → length (lineText number text) ≤ 22 + length text
 line-length number text =
@@ -43,12 +40,5 @@ module _ (number : ℕ) {out : List ℕ} (room : lineRoom ≤ length out) {w₁ 
       pub newline-fits : end + 1 ≤ length w₃
       newline-fits = left .fits
 
-      pub shows-line : {w₄ : List ℕ} {r : ℕ} → Puts (10 ∷ []) end w₃ w₄ r → ShowsLine call number found after w₄ r
-      shows-line l =
-          let s = shown whole (last (10 ∷ []) left l) in
-          record { text = t .text; plays = t .plays; is = s .is; inside = s .inside }
-
--- ---- an image that is refused
-
-pub refusal-fits : (f : Fault) (out : List ℕ) → faultRoom ≤ length out → 0 + length (lineText 0 (faultText f)) ≤ length out
-refusal-fits f out h = omega (arith, line-length 0 (faultText f), length-decimal (faultNumber f))
+      pub puts-line : {w₄ : List ℕ} {r : ℕ} → Puts (10 ∷ []) end w₃ w₄ r → PutsLine call number found after out w₄ r
+      puts-line l = record { text = t .text; plays = t .plays; puts = last (10 ∷ []) left l; fits = omega (arith, whole) }

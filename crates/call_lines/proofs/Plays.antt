@@ -12,7 +12,7 @@ use Rattle.text_values.specs.Texts.{decimalText, Puts}
 use Rattle.call_words.specs.Calls.{Asked, calls, encodes, decodes, images}
 use Rattle.call_words.specs.Reading.{Answers}
 use Rattle.call_answers.specs.Answers.{faultText, instanceText, decodedText, imageTextOf, Told}
-use Rattle.call_answers.proofs.Shown.{decimal-short}
+use Rattle.call_answers.proofs.Room.{decimal-short}
 use Rattle.call_lines.specs.Plays.{Tells, Plays, PutsPlay}
 
 tells : {found : List ℕ} (told : List ℕ) → Tells told found found told

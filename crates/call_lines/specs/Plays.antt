@@ -4,12 +4,12 @@ use mathlib.Core.Path.{_≡_}
 use mathlib.Core.List.{List, [], _∷_, _++_}
 use mathlib.Core.Option.{Option, none, some}
 use Prim.Native.Nat.{ℕ, _+_, _≤_}
-use lib.ListN.{length, take}
+use lib.ListN.{length}
 use Rattle.answers.specs.declared.Fault.the-variants.{OutOfRange}
 use Rattle.image.specs.Store.{held}
 use Rattle.instance_decode.specs.Decoding.{readInstance}
 use Rattle.edits.specs.Does.{Call, Reply, replyNumber, Does}
-use Rattle.text_values.specs.Texts.{decimalText}
+use Rattle.text_values.specs.Texts.{decimalText, Puts}
 use Rattle.text_rows.specs.declared.Slot.{Slot}
 use Rattle.line_fields.specs.Slots.{slotIn, partIn, numberIn}
 use Rattle.call_words.specs.Calls.{Asked, calls, encodes, decodes, images}
@@ -49,19 +49,17 @@ pub record PutsPlay (call : Option Asked) (found after : List ℕ) (at : ℕ) (w
 
 -- ---- the line that is printed
 
--- room for it, and for an image's refusal
+-- room for it
 abbrev pub lineRoom : ℕ
 lineRoom = answerRoom + 22
-
-abbrev pub faultRoom : ℕ
-faultRoom = 64
 
 -- the line's number, a space, the answer and a newline
 abbrev pub lineText : ℕ → List ℕ → List ℕ
 lineText number text = decimalText number ++ (32 ∷ (text ++ (10 ∷ [])))
 
-pub record ShowsLine (call : Option Asked) (number : ℕ) (found after out : List ℕ) (r : ℕ) : Type 0 where
+-- it is put at the front of the buffer
+pub record PutsLine (call : Option Asked) (number : ℕ) (found after w out : List ℕ) (r : ℕ) : Type 0 where
   pub text : List ℕ
   pub plays : Plays call found after text
-  pub is : take r out ≡ lineText number text
-  pub inside : r ≤ length out
+  pub puts : Puts (lineText number text) 0 w out r
+  pub fits : length (lineText number text) ≤ length w

@@ -12,14 +12,11 @@ ghost use Rattle.line_fields.specs.Slots.{Fit};
 ghost use Rattle.call_words.specs.declared.Verb.the-variants.{Encode};
 ghost use Rattle.call_words.specs.Calls.{kindsOf, lineSaid};
 ghost use Rattle.call_words.specs.Reading.{askedIn};
-ghost use Rattle.call_answers.specs.Answers.{faultText, Room, Told, Shows};
-ghost use Rattle.call_lines.specs.Plays.{instanceIn, lineRoom, faultRoom, lineText, PutsPlay, ShowsLine};
+ghost use Rattle.call_answers.specs.Answers.{Room, Told};
+ghost use Rattle.call_lines.specs.Plays.{instanceIn, lineRoom, PutsPlay, PutsLine};
 
 // Room for what is told of a line: its number of 20 digits at most, a space, the answer, a newline.
 pub const TOLD_ROOM: usize = ANSWER_ROOM + 22;
-
-// Room for what is told of a refused image.
-pub const FAULT_ROOM: usize = 64;
 
 // ---- calls
 
@@ -96,21 +93,10 @@ pub fn play(store: &mut [u8], line: &[u8], out: &mut [u8], at: usize) -> usize
 // For the line of that number: the number, the answer, a newline.
 pub fn answer_line(store: &mut [u8], number: u64, line: &[u8], out: &mut [u8]) -> usize
     requires { ⌜ lineRoom ≤ length (now out) ⌝ }
-    ensures { λ r. ⌜ ShowsLine (lineSaid (now (line .entry))) number (now (store .entry)) (now (store .exit)) (now (out .exit)) r ⌝ }
+    ensures { λ r. ⌜ PutsLine (lineSaid (now (line .entry))) number (now (store .entry)) (now (store .exit)) (now (out .entry)) (now (out .exit)) r ⌝ }
 {
     let space = text_values::put_decimal(out, 0, number);
     let from = text_values::put_octet(out, space, b' ');
     let newline = play(store, line, out, from);
-    text_values::put_octet(out, newline, b'\n')
-}
-
-// For an image that is refused: 0, its number, a newline.
-pub fn answer_fault(f: Fault, out: &mut [u8]) -> usize
-    requires { ⌜ faultRoom ≤ length (now out) ⌝ }
-    ensures { λ r. ⌜ Shows (lineText 0 (faultText f)) (now (out .exit)) r ⌝ }
-{
-    let space = text_values::put_decimal(out, 0, 0);
-    let from = text_values::put_octet(out, space, b' ');
-    let newline = text_values::put_decimal(out, from, answers::fault_number(f) as u64);
     text_values::put_octet(out, newline, b'\n')
 }

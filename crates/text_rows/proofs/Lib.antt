@@ -2,3 +2,4 @@ pub mod EntryWords
 pub mod FieldText
 pub mod RowText
 pub mod TextLength
+pub mod Examples

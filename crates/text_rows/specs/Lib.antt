@@ -2,4 +2,3 @@ pub mod TableWords
 pub mod EntryWords
 pub mod FieldText
 pub mod RowText
-pub mod Examples

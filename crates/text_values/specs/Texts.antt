@@ -1,5 +1,5 @@
 -- Values as text, in ASCII: numbers in decimal, names in hex, identifiers dotted. Assumes nothing.
-use mathlib.Core.Path.{_≡_, refl}
+use mathlib.Core.Path.{_≡_}
 use mathlib.Core.Bool.{cond}
 use mathlib.Core.List.{List, [], _∷_, _++_}
 use Prim.Native.Nat.{ℕ, zero, suc, _+_, _/_, _%_}
@@ -17,20 +17,6 @@ digits (suc most) n = cond (ltb n 10) ((48 + n) ∷ []) (digits most (n / 10) ++
 -- a number below 2 ^ 64 has 20 at most
 unfoldable pub decimalText : ℕ → List ℕ
 decimalText n = digits 20 n
-
--- 0, 10 and 18446744073709551615, as computed
-zero-text : decimalText 0 ≡ 48 ∷ []
-unfolding decimalText digits
-zero-text = refl
-
-ten-text : decimalText 10 ≡ 49 ∷ 48 ∷ []
-unfolding decimalText digits
-ten-text = refl
-
-largest-text : decimalText 18446744073709551615
-    ≡ 49 ∷ 56 ∷ 52 ∷ 52 ∷ 54 ∷ 55 ∷ 52 ∷ 52 ∷ 48 ∷ 55 ∷ 51 ∷ 55 ∷ 48 ∷ 57 ∷ 53 ∷ 53 ∷ 49 ∷ 54 ∷ 49 ∷ 53 ∷ []
-unfolding decimalText digits
-largest-text = refl
 
 -- ---- names in hex, two lower-case digits to an octet; `-` is the empty name
 

@@ -7,6 +7,7 @@ use mathlib.Core.Option.{none}
 use Prim.Native.Nat.{ℕ, suc, _+_, _-_, _≤_}
 use native.Mathlib.Omega.{arith}
 use lib.ListN.{length, take, length-append}
+use Rattle.text_values.proofs.Puts.{front}
 use Rattle.program_io.specs.declared.Desk.{Desk}
 use Rattle.program_io.specs.Lines.{linesOf, keep, kept}
 use Rattle.program_io.specs.Desk.{newLine, Taken, AllTaken, Opens, Writes, Refills, NextLine, LastLine}
@@ -14,7 +15,7 @@ use Rattle.program_io.proofs.Lines.{kept-one, kept-none, kept-same}
 use Rattle.program_io.proofs.TakenLines.{taken-written, all-written}
 use Rattle.call_words.specs.Calls.{lineSaid}
 use Rattle.call_words.proofs.Calls.{long-line}
-use Rattle.call_lines.specs.Plays.{Plays, lineText, ShowsLine}
+use Rattle.call_lines.specs.Plays.{Plays, lineText, PutsLine}
 use Rattle.trycalls.specs.Runs.{PlaysFirst, Session, Serves, Answers}
 
 -- ---- sessions
@@ -78,18 +79,18 @@ module _ (d : Desk) (line found : List ℕ) where
     session = λ n e. rw f (session-none n found);
   }
 
-  pub answers-found : {r : Desk} {after out : List ℕ} {end : ℕ} → d .found ≡ true
-      → ShowsLine (lineSaid (take (d .len - 0) line)) (d .number) found after out end → Writes d r (take (end - 0) out) → Answers d r line found after
-  answers-found {r} {after} {out} {end} f s w =
+  pub answers-found : {r : Desk} {after w out : List ℕ} {end : ℕ} → d .found ≡ true
+      → PutsLine (lineSaid (take (d .len - 0) line)) (d .number) found after w out end → Writes d r (take (end - 0) out) → Answers d r line found after
+  answers-found {r} {after} {w} {out} {end} f s h =
       let z : d .len - 0 ≡ d .len = omega arith in
       let y : end - 0 ≡ end = omega arith in
       let p : Plays (lineSaid (take (d .len) line)) found after (s .text) = rw z at (s .plays) in
       record {
         text = take (end - 0) out;
-        writes = w;
+        writes = h;
         session = λ n e.
             let m : d .number ≡ n + 1 = e ∙ ap (λ b. n + length (cond b (take (d .len) line ∷ []) [])) f in
-            let t : take (end - 0) out ≡ lineText (n + 1) (s .text) = ap (λ k. take k out) y ∙ s .is ∙ ap (λ k. lineText k (s .text)) m in
+            let t : take (end - 0) out ≡ lineText (n + 1) (s .text) = ap (λ k. take k out) y ∙ front (omega (arith, s .fits)) (s .puts) ∙ ap (λ k. lineText k (s .text)) m in
             rw (f, t) (session-one n found after (take (d .len) line) (s .text) p);
       }
 

@@ -6,6 +6,7 @@ use mathlib.Core.Option.{Option, none, some}
 use Prim.Native.Nat.{ℕ, _+_}
 use lib.ListN.{length}
 use Rattle.answers.specs.declared.Fault.{Fault}
+use Rattle.answers.specs.Numbers.{faultNumber}
 use Rattle.image_judge.specs.Faults.{tablesIn}
 use Rattle.image.specs.Image.{imageFault}
 use Rattle.image.specs.Store.{held}
@@ -14,7 +15,7 @@ use Rattle.program_io.specs.Files.{TablesFile}
 use Rattle.program_io.specs.Lines.{linesOf}
 use Rattle.program_io.specs.Desk.{Moved, newLine, Writes}
 use Rattle.call_words.specs.Calls.{lineSaid}
-use Rattle.call_answers.specs.Answers.{faultText}
+use Rattle.request_lines.specs.Report.{told}
 use Rattle.call_lines.specs.Plays.{Plays, lineText}
 
 -- ---- lines played one after the other
@@ -44,7 +45,7 @@ pub record OnTables (tables input text : List ℕ) : Type 0 where
 
 -- what is written for tables and an input: the tables' fault, or the answers to the lines
 abbrev pub Written : Option Fault → (tables input text : List ℕ) → Type 0
-Written (some f) tables input text = text ≡ lineText 0 (faultText f)
+Written (some f) tables input text = text ≡ told 0 (faultNumber f)
 Written none tables input text = OnTables tables input text
 
 -- A run: of the file `tables.bin` and of standard input. Where standard output took what was written, that is what is to be written for the two, and the

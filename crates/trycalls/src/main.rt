@@ -1,10 +1,10 @@
 // The program `trycalls`: the calls of standard input, a line each, played on the tables of `tables.bin`, for practice at a desk.
-use call_lines::FAULT_ROOM;
 use call_lines::TOLD_ROOM;
 use image::ROOM;
 use image_transfer::Loaded;
 use program_io::Desk;
 use program_io::PIECE_ROOM;
+use request_lines::MOST_TOLD;
 use text_words::LONGEST_LINE;
 ghost use Prim.Native.Nat.{_≤_};
 ghost use lib.ListN.{length};
@@ -53,8 +53,8 @@ fn run() -> Desk
     match image_transfer::read_image(&octets[0..n], &mut store) {
         Loaded::Done => serve(&mut store),
         Loaded::Faulty(f) => {
-            let mut out = [0u8; FAULT_ROOM];
-            let end = call_lines::answer_fault(f, &mut out);
+            let mut out = [0u8; MOST_TOLD];
+            let end = request_lines::tell_refusal(&mut out, f);
             program_io::write(program_io::start(), &out[0..end])
         }
     }

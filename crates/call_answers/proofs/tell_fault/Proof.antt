@@ -1,7 +1,7 @@
 -- A fault is told by its number, which has twenty digits at most, and so fits. Assumes nothing.
 use native.Mathlib.Omega.{arith}
 use borrow.Author.Needs.{needs}
-use Rattle.call_answers.proofs.Shown.{decimal-short}
+use Rattle.call_answers.proofs.Room.{decimal-short}
 use Rattle.call_answers.proofs.tell_fault.Statement.{statement}
 use Rattle.call_answers.proofs.tell_fault.Tie as tie
 

@@ -2,7 +2,7 @@
 use native.Mathlib.Omega.{arith}
 use borrow.Author.Needs.{needs}
 use Rattle.text_values.proofs.Digits.{length-decimal}
-use Rattle.call_lines.proofs.Lines.{space-fits, play-fits, newline-fits, shows-line}
+use Rattle.call_lines.proofs.Lines.{space-fits, play-fits, newline-fits, puts-line}
 use Rattle.call_lines.proofs.answer_line.Statement.{statement}
 use Rattle.call_lines.proofs.answer_line.Tie as tie
 
@@ -31,7 +31,7 @@ returns c = let n = c .before .before in
     let p = n .before .before .before .before .before .before in
     let o = p .before .before .before .before .before in
     let d = o .before .before .before .before in
-    shows-line (start d .args .number) (start d .pre) (d .put-decimal .ensures) (o .put-octet .ensures) (p .play .ensures) (n .put-octet2 .ensures)
+    puts-line (start d .args .number) (start d .pre) (d .put-decimal .ensures) (o .put-octet .ensures) (p .play .ensures) (n .put-octet2 .ensures)
 
 pub answer-line-spec : {M : Type 1} → statement M
 answer-line-spec =

@@ -2,7 +2,7 @@
 use mathlib.Core.Path.{_≡_}
 use native.Mathlib.Omega.{arith}
 use borrow.Author.Needs.{needs}
-use Rattle.call_answers.proofs.Shown.{decimal-short}
+use Rattle.call_answers.proofs.Room.{decimal-short}
 use Rattle.call_lines.proofs.Plays.{plays-none, plays-call, plays-encode, plays-decode, plays-image}
 use Rattle.call_lines.proofs.play_call.Statement.{statement}
 use Rattle.call_lines.proofs.play_call.Tie as tie

@@ -8,6 +8,7 @@ use native.Mathlib.Omega.{arith}
 use lib.ListN.{take}
 use borrow.Author.Needs.{needs}
 use Rattle.image.specs.Image.{imageFault}
+use Rattle.request_lines.proofs.Told.{told-front}
 use Rattle.trycalls.proofs.Sizes.{held-size, done-none, faulty-some}
 use Rattle.trycalls.proofs.run.Statement.{statement}
 use Rattle.trycalls.proofs.run.Tie as tie
@@ -45,15 +46,14 @@ returns-2 c =
     let q = faulty-some (imageFault i) (sym (c .before .before .before .before .before .before .before .before .f .given .1) ∙ v .read-image .ensures .answer-is) in
     let z : f .result .len - 0 ≡ f .result .len = omega arith in
     let t = c .before .before .before .start .ensures .taken [] [] in
-    let a = c .before .before .before .before .before .answer-fault in
-    let y : a .result - 0 ≡ a .result = omega arith in
+    let a = c .before .before .before .before .before .tell-refusal in
     record {
       tables = take (f .result .len - 0) (f .result .octets);
       input = t .input;
-      text = take (a .result - 0) (a .last .1 .0);
+      text = take (a .result - 0) (a .last .0);
       file = rw z (f .ensures .0);
       moved = λ o. w .moves o (t .moved (w .stays-closed o));
-      written = λ o. rw (q, y) (a .ensures .is);
+      written = λ o. rw q (told-front 0 _ (omega arith) (a .ensures .0));
       ended = λ o n. absurd (Option·none-ne-some _ (sym n ∙ q));
     }
 
