@@ -47,8 +47,8 @@ pub fn tell_encoded(out: &mut [u8], at: usize, t: Table, column: u32, key: &[u8]
 
 // Tells a column and a key, whose bytes are whole.
 fn tell_instance(out: &mut [u8], at: usize, t: Table, column: u32, key: &[u8]) -> usize
-    requires { ⌜ faults (keyFields t) (now key) ≡ none ⌝ }
-    requires { ⌜ Room at (now out) ⌝ }
+    requires legal { ⌜ faults (keyFields t) (now key) ≡ none ⌝ }
+    requires room { ⌜ Room at (now out) ⌝ }
     ensures { λ r. ⌜ Told (instanceOf t column (now (key .entry))) at (now (out .entry)) (now (out .exit)) r ⌝ }
 {
     let a = text_values::put_text(out, at, b"instance ");

@@ -28,8 +28,8 @@ fn encode(
     out: &mut [u8],
     at: usize,
 ) -> usize
-    requires { ⌜ Fit slots (kindsOf Encode) (now bytes) (now parts) ⌝ }
-    requires { ⌜ Room at (now out) ⌝ }
+    requires slots { ⌜ Fit slots (kindsOf Encode) (now bytes) (now parts) ⌝ }
+    requires room { ⌜ Room at (now out) ⌝ }
     ensures { λ r. ⌜ Told (instanceIn slots (now (bytes .entry)) (now (parts .entry))) at (now (out .entry)) (now (out .exit)) r ⌝ }
 {
     let key = slots[1];
@@ -48,8 +48,8 @@ fn play_call(
     out: &mut [u8],
     at: usize,
 ) -> usize
-    requires { ⌜ Fit slots (kindsOf verb) (now bytes) (now parts) ⌝ }
-    requires { ⌜ Room at (now out) ⌝ }
+    requires slots { ⌜ Fit slots (kindsOf verb) (now bytes) (now parts) ⌝ }
+    requires room { ⌜ Room at (now out) ⌝ }
     ensures { λ r. ⌜ PutsPlay (askedIn verb slots (now (bytes .entry)) (now (parts .entry))) (now (store .entry)) (now (store .exit)) at
         (now (out .entry)) (now (out .exit)) r ⌝ }
 {

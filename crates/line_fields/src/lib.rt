@@ -130,8 +130,8 @@ pub fn read(
     bytes: &mut [u8],
     parts: &mut [u32],
 ) -> Fields
-    requires { ⌜ Kinds n kinds ⌝ }
-    requires { ⌜ Lent (now line) at (now bytes) (now parts) ⌝ }
+    requires kinds { ⌜ Kinds n kinds ⌝ }
+    requires lent { ⌜ Lent (now line) at (now bytes) (now parts) ⌝ }
     ensures { λ r. ⌜ ReadsFields r (take n kinds) (now (bytes .exit)) (now (parts .exit)) (valuesSaid (take n kinds) (wordsFrom at (now (line .entry)))) ⌝ }
 {
     let mut slots = no_slots();

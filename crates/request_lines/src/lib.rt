@@ -31,8 +31,8 @@ fn answer_fields(
     bytes: &[u8],
     parts: &[u32],
 ) -> u32
-    requires { ⌜ SoundLayout (now image) l ⌝ }
-    requires { ⌜ Fit slots requestKinds (now bytes) (now parts) ⌝ }
+    requires sound { ⌜ SoundLayout (now image) l ⌝ }
+    requires slots { ⌜ Fit slots requestKinds (now bytes) (now parts) ⌝ }
     ensures { λ r. ⌜ r ≡ requestAnswer (tablesAt (now (image .entry)) l) (some (requestIn slots (now (bytes .entry)) (now (parts .entry)))) ⌝ }
 {
     let answer = decision::answer_request(

@@ -39,8 +39,8 @@ fn name(word: &[u8], out: &mut [u8], from: usize) -> Filled
 
 // A subtree, likewise.
 fn subtree(word: &[u8], out: &mut [u8], from: usize) -> Filled
-    requires { ⌜ from + wordBytes (now word) ≤ length (now out) ⌝ }
-    requires { ⌜ length (now word) ≤ longest ⌝ }
+    requires room { ⌜ from + wordBytes (now word) ≤ length (now out) ⌝ }
+    requires short { ⌜ length (now word) ≤ longest ⌝ }
     ensures { λ r. ⌜ Fills r from (wordBytes (now (word .entry))) (now (out .entry)) (now (out .exit)) (counted quad (dotted (now (word .entry)))) ⌝ }
 {
     let mut parts = [0u32; LONGEST_LINE];
@@ -86,8 +86,8 @@ fn small(word: &[u8], out: &mut [u8], from: usize) -> Filled
 
 // The field of form `f` that a word says, its bytes in `out` from `from` on.
 pub fn field(f: Form, word: &[u8], out: &mut [u8], from: usize) -> Filled
-    requires { ⌜ from + wordBytes (now word) ≤ length (now out) ⌝ }
-    requires { ⌜ length (now word) ≤ longest ⌝ }
+    requires room { ⌜ from + wordBytes (now word) ≤ length (now out) ⌝ }
+    requires short { ⌜ length (now word) ≤ longest ⌝ }
     ensures { λ r. ⌜ Fills r from (wordBytes (now (word .entry))) (now (out .entry)) (now (out .exit)) (fieldSaid (fieldOf f) (now (word .entry))) ⌝ }
 {
     match f {
@@ -108,8 +108,8 @@ pub enum Placed {
 
 // The first `n` fields of a row, a word for each from the one that begins at `at` on, their bytes in `out` from `from` on.
 pub fn fields(t: Table, n: usize, line: &[u8], at: usize, out: &mut [u8], from: usize) -> Placed
-    requires { ⌜ n ≤ length (rowFields t) ⌝ }
-    requires { ⌜ Roomy (now line) at (now out) from ⌝ }
+    requires fields { ⌜ n ≤ length (rowFields t) ⌝ }
+    requires room { ⌜ Roomy (now line) at (now out) from ⌝ }
     ensures { λ r. ⌜ Places r from at (now (line .entry)) (now (out .entry)) (now (out .exit))
         (fieldsSaid (take n (rowFields t)) (wordsFrom at (now (line .entry)))) ⌝ }
 {

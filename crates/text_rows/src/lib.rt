@@ -107,8 +107,8 @@ fn field_end(f: Form, row: &[u8], at: usize) -> usize
 
 // The text of the field of form `f` that lies in `row` from `from` to `end`.
 fn put_field(out: &mut [u8], at: usize, f: Form, row: &[u8], from: usize, end: usize) -> usize
-    requires { ⌜ FieldIn f (now row) from end ⌝ }
-    requires { ⌜ at + length (fieldText (fieldOf f) (value (fieldOf f) (drop from (now row)))) ≤ length (now out) ⌝ }
+    requires whole { ⌜ FieldIn f (now row) from end ⌝ }
+    requires room { ⌜ at + length (fieldText (fieldOf f) (value (fieldOf f) (drop from (now row)))) ≤ length (now out) ⌝ }
     ensures { λ r. ⌜ Puts (fieldText (fieldOf f) (value (fieldOf f) (drop from (now (row .entry))))) at (now (out .entry)) (now (out .exit)) r ⌝ }
 {
     match f {
@@ -121,8 +121,8 @@ fn put_field(out: &mut [u8], at: usize, f: Form, row: &[u8], from: usize, end: u
 
 // The first `n` fields of a row, each behind a space: `row` holds these and no more.
 fn put_fields(out: &mut [u8], at: usize, t: Table, n: usize, row: &[u8]) -> usize
-    requires { ⌜ Fields n t (now row) ⌝ }
-    requires { ⌜ at + length (fieldsText (take n (rowFields t)) (values (take n (rowFields t)) (now row))) ≤ length (now out) ⌝ }
+    requires whole { ⌜ Fields n t (now row) ⌝ }
+    requires room { ⌜ at + length (fieldsText (take n (rowFields t)) (values (take n (rowFields t)) (now row))) ≤ length (now out) ⌝ }
     ensures { λ r. ⌜ Puts (fieldsText (take n (rowFields t)) (values (take n (rowFields t)) (now (row .entry)))) at (now (out .entry)) (now (out .exit)) r ⌝ }
 {
     let mut o = at;
@@ -141,8 +141,8 @@ fn put_fields(out: &mut [u8], at: usize, t: Table, n: usize, row: &[u8]) -> usiz
 
 // The key of a table: its bytes are whole, as `rows::judge_key` tells.
 pub fn put_key(out: &mut [u8], at: usize, t: Table, key: &[u8]) -> usize
-    requires { ⌜ faults (keyFields t) (now key) ≡ none ⌝ }
-    requires { ⌜ at + length (keyText t (values (keyFields t) (now key))) ≤ length (now out) ⌝ }
+    requires legal { ⌜ faults (keyFields t) (now key) ≡ none ⌝ }
+    requires room { ⌜ at + length (keyText t (values (keyFields t) (now key))) ≤ length (now out) ⌝ }
     ensures { λ r. ⌜ Puts (keyText t (values (keyFields t) (now (key .entry)))) at (now (out .entry)) (now (out .exit)) r ⌝ }
 {
     let next = put_table(out, at, t);
