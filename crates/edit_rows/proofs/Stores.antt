@@ -110,7 +110,8 @@ held-ascends w e u =
 pub edits-unsound : (f : Tables → Outcome) (w : List ℕ) → isSound w ≡ false → Edits f w w (Faulty NotSound)
 edits-unsound f w h =
     let e = held-unsound w h in
-    record { answer-is = sym (ap (answered f) e); number-is = ap editedNumber (sym (ap (answered f) e)); rows-are = e ∙ sym (ap (left f) e); refusal-keeps = λ n. refl }
+    let a = sym (ap (answered f) e) in
+    record { answer-is = a; number-is = ap editedNumber a; rows-are = e ∙ sym (ap (left f) e); refusal-keeps = λ n. refl }
 
 module _ (f : Tables → Outcome) (w : List ℕ) (h : isSound w ≡ true) where
   edits-made : (after : List ℕ) (r : Edited) → isSound after ≡ true → f (tables (storeRows w)) ≡ outcome r (tables (storeRows after)) →

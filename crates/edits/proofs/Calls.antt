@@ -25,7 +25,8 @@ use Rattle.image.specs.Store.{isSound}
 use Rattle.rows.specs.declared.Operation.{Operation}
 use Rattle.edit_rules.specs.declared.Edited.{Edited}
 use Rattle.edit_rules.specs.declared.Edited.the-variants.{Barred, Faulty}
-use Rattle.edit_rules.specs.Edits.{Edit, Caller, editOf, fieldsOf, edit, legalCaller, legalEdit, judgement, isContext, Outcome, outcome, rowFault, faulted, settled}
+use Rattle.edit_rules.specs.Edits.{Edit, Caller, editOf, fieldsOf, edit, legalCaller, legalEdit, judgement, isContext}
+use Rattle.edit_rules.specs.Edits.{Outcome, outcome, rowFault, faulted, settled}
 use Rattle.edits.specs.Calls.{allowed, ownerJudged, principalJudged, ownerEdit, principalEdit, OwnerEdits, PrincipalEdits, prepared}
 use Rattle.edit_rules.proofs.Outcomes.{tables}
 use Rattle.edit_rows.specs.Promise.{Edits}

@@ -38,7 +38,8 @@ pub reads-done : (image found : List ℕ) {after : List ℕ} → Octets image �
 reads-done image found {after} b s e p =
     let q : after ≡ overlaid image found = p ∙ paste-front image found in
     let l : length after ≡ room = ap length q ∙ length-overlaid image found (omega (arith, image-room image e)) ∙ s in
-    record { answer-is = rw e; number-is = rw e; store-is = rw e q; rows-are = λ d. held-front image b (image-accepted image e) after (drop (length image) found) q l }
+    let h = held-front image b (image-accepted image e) after (drop (length image) found) q l in
+    record { answer-is = rw e; number-is = rw e; store-is = rw e q; rows-are = λ d. h }
 
 -- ---- writing
 
@@ -90,4 +91,5 @@ module _ (w found : List ℕ) where
           ap (λ m. take m w) (a .end-is) ∙ take-again w b (store-sound w h .rows-sound) (store-sound w h .end-in) in
           let o : after ≡ overlaid (take (endOf w x) w) found =
           p ∙ overlaid-copied w found (x .rows) (omega (arith, a .inside .rows-in)) c (endOf w x) (omega arith) (a .inside .rows-in) in
-          rw held-is (record { answer-is = rw e (ap Length (n ∙ a .end-is ∙ sym length-is)); number-is = rw e; buffer-is = rw e (o ∙ ap (λ v. overlaid v found) q) })
+          let i = ap Length (n ∙ a .end-is ∙ sym length-is) in
+          rw held-is (record { answer-is = rw e i; number-is = rw e; buffer-is = rw e (o ∙ ap (λ v. overlaid v found) q) })

@@ -19,7 +19,8 @@ use Rattle.rows.specs.Rows.{ContextRow, MappingRow, AccessRow, ViewRow}
 use Rattle.rows.specs.Tables.{Tables}
 use Rattle.decision_steps.specs.Request.{Request}
 use Rattle.answers.specs.declared.Cause.the-variants.{NoSuchView, NoAccessEntry, NoGroupName}
-use Rattle.decision_steps.specs.Decision.{bearsContext, mapsPrincipal, candidate, ofModel, longestPrefix, highestLevel, chosenAccess, viewFor, inView, viewRows, orRefused}
+use Rattle.decision_steps.specs.Decision.{bearsContext, mapsPrincipal, candidate, ofModel, longestPrefix, highestLevel}
+use Rattle.decision_steps.specs.Decision.{chosenAccess, viewFor, inView, viewRows, orRefused}
 use Rattle.decision_steps.specs.Decision.{ifAny, step5, step4, step3, step2, decision}
 use Rattle.isolation.specs.Isolation.{Circle, rowIn, chosenOrEmpty, namesChosen}
 use Rattle.isolation.proofs.Tables.{find-keep}

@@ -94,10 +94,12 @@ module _ (w : Circle) where
           ap (λ o. heldFault strict (e .operation) (Option·map (storageOf (e .table)) o) (storageOf (e .table) (rowOf (e .table) (e .bytes)))) held-circle
 
       -- room among all rows is room among the circle's
-      room-circle : leb (limit (e .table)) (length (rowsOf (e .table) ts)) ≡ false → leb (limit (e .table)) (length (rowsOf (e .table) (circleRows w ts))) ≡ false
+      room-circle : leb (limit (e .table)) (length (rowsOf (e .table) ts)) ≡ false
+          → leb (limit (e .table)) (length (rowsOf (e .table) (circleRows w ts))) ≡ false
       room-circle f =
           let a : length (rowsOf (e .table) ts) < limit (e .table) = leb-false _ _ f in
-          let b : length (keep (rowIn w (e .table)) (rowsOf (e .table) ts)) ≤ length (rowsOf (e .table) ts) = length-keep (rowIn w (e .table)) (rowsOf (e .table) ts) in
+          let rs = rowsOf (e .table) ts in
+          let b : length (keep (rowIn w (e .table)) rs) ≤ length rs = length-keep (rowIn w (e .table)) rs in
           lt-leb (limit (e .table)) _ (rw (rows-circle w (e .table) ts) (omega arith))
 
       full-circle : isFull ts e ≡ false → isFull (circleRows w ts) e ≡ false

@@ -38,8 +38,12 @@ module _ {R : Type 0} (indexOf : R → List ℕ) (p : R → Bool) where
   keep-alike g xs ys a b h =
       ascends-same indexOf (keep p xs) (keep p ys) (ascends-keep indexOf p xs a) (ascends-keep indexOf p ys b)
       (λ z. split (p z)
-      (λ k. let c : (x : R) → indexOf z ≡ indexOf x → p x ≡ true = λ x e. g z x e ∙ k in rowAt-keep indexOf p (indexOf z) xs c ∙ h z k ∙ sym (rowAt-keep indexOf p (indexOf z) ys c))
-      (λ k. let c : (x : R) → indexOf z ≡ indexOf x → p x ≡ false = λ x e. g z x e ∙ k in rowAt-unkept indexOf p (indexOf z) xs c ∙ sym (rowAt-unkept indexOf p (indexOf z) ys c)))
+      (λ k.
+      let c : (x : R) → indexOf z ≡ indexOf x → p x ≡ true = λ x e. g z x e ∙ k in
+      rowAt-keep indexOf p (indexOf z) xs c ∙ h z k ∙ sym (rowAt-keep indexOf p (indexOf z) ys c))
+      (λ k.
+      let c : (x : R) → indexOf z ≡ indexOf x → p x ≡ false = λ x e. g z x e ∙ k in
+      rowAt-unkept indexOf p (indexOf z) xs c ∙ sym (rowAt-unkept indexOf p (indexOf z) ys c)))
 
 module _ (w : Circle) where
   same-rows : (s t : List ℕ) (a b : Tables) → held s ≡ some a → held t ≡ some b → circleRows w a ≡ circleRows w b → SameRows w s t

@@ -20,6 +20,6 @@ use Rattle.request_lines.specs.Examples.{P12Written}
 
 pub p12-written : P12Written
 unfolding written imageFault sizedFault rowsFault tableFault faults sequenceFault integerFault laidOut layoutOf keyFields rowFields before same tablesAt
-    linesOf split report lineAnswer request valuesSaid kindSaid bind decimal digitsFrom hexOctets hexPairs hexDigit dotted decimals legalRequest decision bearsContext
-    mapsPrincipal told decimalText digits
+    linesOf split report lineAnswer request valuesSaid kindSaid bind decimal digitsFrom hexOctets hexPairs hexDigit dotted decimals legalRequest decision
+    bearsContext mapsPrincipal told decimalText digits
 p12-written = refl

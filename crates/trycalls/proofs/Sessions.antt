@@ -90,7 +90,8 @@ module _ (d : Desk) (line found : List ℕ) where
         writes = h;
         session = λ n e.
             let m : d .number ≡ n + 1 = e ∙ ap (λ b. n + length (cond b (take (d .len) line ∷ []) [])) f in
-            let t : take (end - 0) out ≡ lineText (n + 1) (s .text) = ap (λ k. take k out) y ∙ front (omega (arith, s .fits)) (s .puts) ∙ ap (λ k. lineText k (s .text)) m in
+            let u : take end out ≡ lineText (d .number) (s .text) = front (omega (arith, s .fits)) (s .puts) in
+            let t : take (end - 0) out ≡ lineText (n + 1) (s .text) = ap (λ k. take k out) y ∙ u ∙ ap (λ k. lineText k (s .text)) m in
             rw (f, t) (session-one n found after (take (d .len) line) (s .text) p);
       }
 

@@ -13,7 +13,9 @@ decide-in-requires : tie.Need-decide-in-requires
 decide-in-requires c κs = viewed-in (c .before .before .before .authorize .ensures) (c .before .standing2 .given .1)
 
 returns : tie.Need-returns
-returns c = let f = c .before .before .before in denied-decision (f .authorize .ensures) (identifier (start f .args .variable .now)) (c .before .standing .given .1)
+returns c =
+    let f = c .before .before .before in
+    denied-decision (f .authorize .ensures) (identifier (start f .args .variable .now)) (c .before .standing .given .1)
 
 returns-2 : tie.Need-returns-2
 returns-2 c =

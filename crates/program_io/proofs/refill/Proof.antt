@@ -11,7 +11,8 @@ use Rattle.program_io.proofs.refill.Tie as tie
 returns-2 : tie.Need-returns-2
 returns-2 c = let s = c .before .before .before .before .before .before .before .before .before .before in
     let r = c .before .before .read in
-    refill-read (s .pre) (c .before .before .before .before .before .before .if2 .left) (r .ensures) (c .before .before .before .before .if3 .taken) (r .kept .1 .0)
+    let t = c .before .before .before .before in
+    refill-read (s .pre) (t .before .before .if2 .left) (r .ensures) (t .if3 .taken) (r .kept .1 .0)
 
 returns-3 : tie.Need-returns-3
 returns-3 c = let s = c .before .before .before .before .before .before in

@@ -25,7 +25,9 @@ octets-in-requires-2 : tie.Need-octets-in-requires-2
 octets-in-requires-2 c κs = c .before .before .before .before .before .before .before .before .before .before .before .before .pre .1 .within 4 (omega arith)
 
 identifier-in-requires : tie.Need-identifier-in-requires
-identifier-in-requires c κs = c .before .before .before .before .before .before .before .before .before .before .before .before .before .before .pre .1 .within 5 (omega arith)
+identifier-in-requires c κs =
+    let s = c .before .before .before .before .before .before .before .before .before .before .before .before .before .before in
+    s .pre .1 .within 5 (omega arith)
 
 answer-request-requires : tie.Need-answer-request-requires
 answer-request-requires c κs = c .before .before .before .before .before .before .before .before .before .before .before .before .before .before .before .pre .0

@@ -9,7 +9,9 @@ returns : tie.Need-returns
 returns c = answers-none _ _ _ (not-true _ (c .if1 .taken))
 
 returns-2 : tie.Need-returns-2
-returns-2 c = answers-found _ _ _ (not-false _ (c .before .before .before .before .before .before .before .before .before .before .before .if1 .left)) (c .before .before .before .before .before .before .before .answer-line .ensures) (c .write .ensures)
+returns-2 c =
+    let a = c .before .before .before .before .before .before .before in
+    answers-found _ _ _ (not-false _ (a .before .before .before .before .if1 .left)) (a .answer-line .ensures) (c .write .ensures)
 
 pub answer-spec : {M : Type 1} → statement M
 answer-spec =

@@ -22,6 +22,13 @@ Inv-loop store₀ piece₀ line₀ out₀ d₀ store piece line out d =
 abbrev μ-loop : tie.MeasureT-loop
 μ-loop store₀ piece₀ line₀ out₀ d₀ store piece line out d = pending d
 
+-- from the answer of a turn to its line, and from there to the loop's head
+abbrev line-of : tie.After-answer Inv-loop μ-loop → tie.After-next-line Inv-loop μ-loop
+line-of c = c .before .before .before .before .before
+
+abbrev head-of : tie.After-next-line Inv-loop μ-loop → tie.At-loop Inv-loop μ-loop
+head-of c = c .before .before .before .before .before
+
 refill-requires : tie.Need-refill-requires Inv-loop μ-loop
 refill-requires c κs = c .before .start .ensures .ready _ refl
 
@@ -42,22 +49,24 @@ next-line-requires : tie.Need-next-line-requires Inv-loop μ-loop
 next-line-requires c κs = let i = c .before .before .before .before .loop .inv in (i .1, (c .before .before .if1 .taken, (i .4, i .2)))
 
 answer-requires : tie.Need-answer-requires Inv-loop μ-loop
-answer-requires c κs = let i = c .before .before .before .before .before .before .before .before .before .loop .inv in (c .before .before .before .before .next-line .ensures .len-in, omega (arith, i .5))
+answer-requires c κs = let l = c .before .before .before .before in (l .next-line .ensures .len-in, omega (arith, head-of l .loop .inv .5))
 
 refill-requires-2 : tie.Need-refill-requires-2 Inv-loop μ-loop
-refill-requires-2 c κs = ready-written (c .before .before .before .before .answer .ensures .writes) (c .before .before .before .before .before .before .before .before .before .next-line .ensures .ready)
+refill-requires-2 c κs = let a = c .before .before .before .before in
+    ready-written (a .answer .ensures .writes) (line-of a .next-line .ensures .ready)
 
 loop-less : tie.Need-loop-less Inv-loop μ-loop
 loop-less c =
-    let w = c .before .before .before .before .before .before .answer .ensures .writes .same in
-    omega (arith, c .before .refill2 .ensures .no-more, ap pending w, c .before .before .before .before .before .before .before .before .before .before .before .next-line .ensures .less)
+    let a = c .before .before .before .before .before .before in
+    omega (arith, c .before .refill2 .ensures .no-more, ap pending (a .answer .ensures .writes .same), line-of a .next-line .ensures .less)
 
 loop-again : tie.Need-loop-again Inv-loop μ-loop
 loop-again c =
     let f = c .before .refill2 in
     let a = c .before .before .before .before .before .before .answer in
-    let n = c .before .before .before .before .before .before .before .before .before .before .before .next-line in
-    let i = c .before .before .before .before .before .before .before .before .before .before .before .before .before .before .before .before .loop .inv in (
+    let l = line-of (c .before .before .before .before .before .before) in
+    let n = l .next-line in
+    let i = head-of l .loop .inv in (
       playing-refilled (playing-line (i .0) (n .ensures) (a .ensures)) (f .ensures),
       f .ensures .ready,
       omega (arith, f .ensures .same-begun, ap (λ d. d .begun) (a .ensures .writes .same), n .ensures .begun-in),
@@ -80,7 +89,8 @@ returns c =
     let h = c .before .before .before .before .before .before .before .before .before .before in
     let i = h .loop .inv in
     let x : h .loop .d .at ≡ h .loop .d .end = omega (arith, c .before .before .before .before .before .before .before .before .if1 .left, i .1 .at-in) in
-    playing-last (i .0) (c .before .before .before .before .before .before .before .last-line .ensures) (i .2) x (λ o. i .3 o x) (c .before .before .before .answer2 .ensures)
+    let a = c .before .before .before in
+    playing-last (i .0) (a .before .before .before .before .last-line .ensures) (i .2) x (λ o. i .3 o x) (a .answer2 .ensures)
 
 pub serve-spec : {M : Type 1} → statement M
 serve-spec =

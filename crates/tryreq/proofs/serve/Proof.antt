@@ -23,6 +23,13 @@ Inv-loop image l piece₀ line₀ out₀ used₀ d₀ piece line out used d =
 abbrev μ-loop : tie.MeasureT-loop
 μ-loop image l piece₀ line₀ out₀ used₀ d₀ piece line out used d = pending d
 
+-- from the answer of a turn to its line, and from there to the loop's head
+abbrev line-of : tie.After-answer Inv-loop μ-loop → tie.After-next-line Inv-loop μ-loop
+line-of c = c .before .before .before .before
+
+abbrev head-of : tie.After-next-line Inv-loop μ-loop → tie.At-loop Inv-loop μ-loop
+head-of c = c .before .before .before .before .before
+
 refill-requires : tie.Need-refill-requires Inv-loop μ-loop
 refill-requires c κs = c .before .start .ensures .ready _ refl
 
@@ -50,24 +57,27 @@ answer-requires c κs =
     (h .before .before .before .before .before .before .pre, (n .ensures .len-in, h .loop .inv .3))
 
 due-requires : tie.Need-due-requires Inv-loop μ-loop
-due-requires c κs = let i = c .before .before .before .before .before .before .before .before .before .before .loop .inv in omega (arith, c .before .answer .ensures .within, i .3, i .6)
+due-requires c κs =
+    let a = c .before in
+    let i = head-of (line-of a) .loop .inv in
+    omega (arith, a .answer .ensures .within, i .3, i .6)
 
 part-write-end : tie.Need-part-write-end Inv-loop μ-loop
 part-write-end c =
-    let a = c .before .before .before .answer in
-    let i = c .before .before .before .before .before .before .before .before .before .before .before .before .loop .inv in
-    omega (arith, c .before .due .ensures .within, a .ensures .within, a .kept .1 .1 .1 .1 .0, i .3)
+    let a = c .before .before .before in
+    let i = head-of (line-of a) .loop .inv in
+    omega (arith, c .before .due .ensures .within, a .answer .ensures .within, a .answer .kept .1 .1 .1 .1 .0, i .3)
 
 sub-used : tie.Need-sub-used Inv-loop μ-loop
 sub-used c = c .before .before .before .due .ensures .within
 
 refill-requires-2 : tie.Need-refill-requires-2 Inv-loop μ-loop
-refill-requires-2 c κs = ready-written (c .before .write .ensures) (c .before .before .before .before .before .before .before .before .before .before .next-line .ensures .ready)
+refill-requires-2 c κs = ready-written (c .before .write .ensures) (line-of (c .before .before .before .before .before .before) .next-line .ensures .ready)
 
 loop-less : tie.Need-loop-less Inv-loop μ-loop
 loop-less c =
     let w = c .before .before .before .write .ensures .same in
-    let n = c .before .before .before .before .before .before .before .before .before .before .before .before .next-line .ensures in
+    let n = line-of (c .before .before .before .before .before .before .before .before) .next-line .ensures in
     omega (arith, c .before .refill2 .ensures .no-more, ap pending w, n .less)
 
 loop-again : tie.Need-loop-again Inv-loop μ-loop
@@ -76,8 +86,9 @@ loop-again c =
     let w = c .before .before .before .write .ensures in
     let u = c .before .before .before .before .before .before .due .ensures in
     let a = c .before .before .before .before .before .before .before .before .answer in
-    let n = c .before .before .before .before .before .before .before .before .before .before .before .before .next-line in
-    let i = c .before .before .before .before .before .before .before .before .before .before .before .before .before .before .before .before .before .loop .inv in (
+    let l = line-of (c .before .before .before .before .before .before .before .before) in
+    let n = l .next-line in
+    let i = head-of l .loop .inv in (
       telling-refilled _ (telling-written _ (telling-line _ (i .3) (a .ensures) (i .0) (n .ensures)) u w) (f .ensures),
       f .ensures .ready,
       omega (arith, f .ensures .same-begun, ap (λ d. d .begun) (w .same), n .ensures .begun-in),
@@ -108,7 +119,8 @@ returns c =
     let i = h .loop .inv in
     let e = c .before .before .before .before .before .before .before .before .if1 .left in
     let x : h .loop .d .at ≡ h .loop .d .end = omega (arith, e, i .1 .at-in) in
-    telling-last _ (i .3) (c .before .before .before .before .answer2 .ensures) (i .0) (c .before .before .before .before .before .before .before .last-line .ensures) (i .2) x (λ o. i .4 o x) (c .write2 .ensures)
+    let a = c .before .before .before .before in
+    telling-last _ (i .3) (a .answer2 .ensures) (i .0) (a .before .before .before .last-line .ensures) (i .2) x (λ o. i .4 o x) (c .write2 .ensures)
 
 pub serve-spec : {M : Type 1} → statement M
 serve-spec =
