@@ -30,9 +30,9 @@ pub record PlaysFirst (n : ℕ) (found line text : List ℕ) (goesOn : List ℕ 
   pub text-is : text ≡ lineText (n + 1) answer ++ later
 
 -- n lines stood before them: each is played on the store that the one before left, and its number and its answer are written
-unfoldable pub Session : ℕ → (found : List ℕ) → List (List ℕ) → (text after : List ℕ) → Type 0
-Session n found [] text after = (text ≡ []) × (after ≡ found)
-Session n found (line ∷ lines) text after = PlaysFirst n found line text (λ next later. Session (n + 1) next lines later after)
+unfoldable pub Played : ℕ → (found : List ℕ) → List (List ℕ) → (text after : List ℕ) → Type 0
+Played n found [] text after = (text ≡ []) × (after ≡ found)
+Played n found (line ∷ lines) text after = PlaysFirst n found line text (λ next later. Played (n + 1) next lines later after)
 
 -- ---- a run
 
@@ -41,7 +41,7 @@ pub record OnTables (tables input text : List ℕ) : Type 0 where
   pub store : List ℕ
   pub after : List ℕ
   pub holds : held store ≡ some (tablesIn tables)
-  pub session : Session 0 store (linesOf input) text after
+  pub played : Played 0 store (linesOf input) text after
 
 -- what is written for tables and an input: the tables' fault, or the answers to the lines
 abbrev pub Written : Option Fault → (tables input text : List ℕ) → Type 0
@@ -66,11 +66,11 @@ pub record Serves (d : Desk) (found after : List ℕ) : Type 0 where
   pub input : List ℕ
   pub text : List ℕ
   pub moved : d .writable ≡ true → Moved input text
-  pub session : d .writable ≡ true → Session 0 found (linesOf input) text after
+  pub played : d .writable ≡ true → Played 0 found (linesOf input) text after
   pub ended : d .writable ≡ true → d .reads ≡ 0
 
 -- the line that was found, if one was, is played and its answer written
 pub record Answers (d r : Desk) (line found after : List ℕ) : Type 0 where
   pub text : List ℕ
   pub writes : Writes d r text
-  pub session : (n : ℕ) → d .number ≡ n + length (newLine d line) → Session n found (newLine d line) text after
+  pub played : (n : ℕ) → d .number ≡ n + length (newLine d line) → Played n found (newLine d line) text after

@@ -1,7 +1,7 @@
--- `trycalls::answer` meets its contract: nothing is written where no line was found, and otherwise what playing it tells (`Sessions`). Assumes nothing.
+-- `trycalls::answer` meets its contract: nothing is written where no line was found, and otherwise what playing it tells (`PlayedLines`). Assumes nothing.
 use borrow.Author.Needs.{needs}
 use Rattle.numbers.proofs.Bools.{not-true, not-false}
-use Rattle.trycalls.proofs.Sessions.{answers-none, answers-found}
+use Rattle.trycalls.proofs.PlayedLines.{answers-none, answers-found}
 use Rattle.trycalls.proofs.answer.Statement.{statement}
 use Rattle.trycalls.proofs.answer.Tie as tie
 

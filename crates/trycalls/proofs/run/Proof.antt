@@ -33,7 +33,7 @@ returns c =
       text = s .text;
       file = rw z (f .ensures .0);
       moved = s .moved;
-      written = λ o. rw q (record { store = _; after = _; holds = v .read-image .ensures .rows-are e; session = s .session o });
+      written = λ o. rw q (record { store = _; after = _; holds = v .read-image .ensures .rows-are e; played = s .played o });
       ended = λ o n. s .ended o;
     }
 

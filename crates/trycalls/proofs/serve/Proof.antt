@@ -10,7 +10,7 @@ use Rattle.text_words.specs.Words.{longest}
 use Rattle.program_io.specs.Desk.{Ready, pending}
 use Rattle.program_io.proofs.TakenLines.{ready-written}
 use Rattle.call_lines.specs.Plays.{lineRoom}
-use Rattle.trycalls.proofs.Sessions.{Playing, playing-none, playing-refilled, playing-line, playing-last}
+use Rattle.trycalls.proofs.PlayedLines.{Playing, playing-none, playing-refilled, playing-line, playing-last}
 use Rattle.trycalls.proofs.serve.Statement.{statement}
 use Rattle.trycalls.proofs.serve.Tie as tie
 

@@ -1,5 +1,5 @@
--- Laws of sessions: one after the other is a session, and so is that of lines of which more is kept than shows that they are too long. A line found and
--- played goes on the session of the lines taken; at the input's end all of its lines are played. Assumes nothing.
+-- Laws of lines played one after the other. Lists of them join; of a line that is too long, what is kept is played as the line is. A line found and played
+-- goes behind the lines taken, and at the input's end all of its lines are played. Assumes nothing.
 use mathlib.Core.Path.{_≡_, refl, sym, ap, _∙_}
 use mathlib.Core.Bool.{Bool, true, false, cond}
 use mathlib.Core.List.{List, [], _∷_, _++_, append-assoc, append-nil}
@@ -16,19 +16,19 @@ use Rattle.program_io.proofs.TakenLines.{taken-written, all-written}
 use Rattle.call_words.specs.Calls.{lineSaid}
 use Rattle.call_words.proofs.Calls.{long-line}
 use Rattle.call_lines.specs.Plays.{Plays, lineText, PutsLine}
-use Rattle.trycalls.specs.Runs.{PlaysFirst, Session, Serves, Answers}
+use Rattle.trycalls.specs.Runs.{PlaysFirst, Played, Serves, Answers}
 
--- ---- sessions
+-- ---- lists of lines
 
-session-none : (n : ℕ) (found : List ℕ) → Session n found [] [] found
-unfolding Session
-session-none n found = (refl, refl)
+played-none : (n : ℕ) (found : List ℕ) → Played n found [] [] found
+unfolding Played
+played-none n found = (refl, refl)
 
 -- a line alone
-session-one : (n : ℕ) (found after line answer : List ℕ) → Plays (lineSaid line) found after answer
-    → Session n found (line ∷ []) (lineText (n + 1) answer) after
-unfolding Session
-session-one n found after line answer p = record {
+played-one : (n : ℕ) (found after line answer : List ℕ) → Plays (lineSaid line) found after answer
+    → Played n found (line ∷ []) (lineText (n + 1) answer) after
+unfolding Played
+played-one n found after line answer p = record {
   next = after;
   answer = answer;
   later = [];
@@ -38,34 +38,34 @@ session-one n found after line answer p = record {
 }
 
 -- one after the other
-session-both : (n m : ℕ) (found mid after : List ℕ) (xs ys : List (List ℕ)) (t u : List ℕ) → m ≡ n + length xs → Session n found xs t mid
-    → Session m mid ys u after → Session n found (xs ++ ys) (t ++ u) after
-unfolding Session
-session-both n m found mid after [] ys t u e s r =
+played-both : (n m : ℕ) (found mid after : List ℕ) (xs ys : List (List ℕ)) (t u : List ℕ) → m ≡ n + length xs → Played n found xs t mid
+    → Played m mid ys u after → Played n found (xs ++ ys) (t ++ u) after
+unfolding Played
+played-both n m found mid after [] ys t u e s r =
     let z : m ≡ n = omega arith in
     rw (s .0, ← s .1, ← z) r
-session-both n m found mid after (x ∷ xs) ys t u e s r = record {
+played-both n m found mid after (x ∷ xs) ys t u e s r = record {
   next = s .next;
   answer = s .answer;
   later = s .later ++ u;
   plays = s .plays;
-  goes-on = session-both (n + 1) m (s .next) mid after xs ys (s .later) u (omega arith) (s .goes-on) r;
+  goes-on = played-both (n + 1) m (s .next) mid after xs ys (s .later) u (omega arith) (s .goes-on) r;
   text-is = ap (λ v. v ++ u) (s .text-is) ∙ append-assoc (lineText (n + 1) (s .answer)) (s .later) u;
 }
 
 -- what is kept of lines is played as the lines
-session-kept : (n : ℕ) (found after : List ℕ) (lines : List (List ℕ)) (text : List ℕ) → Session n found (kept lines) text after
-    → Session n found lines text after
-unfolding Session
-session-kept n found after [] text s = rw kept-none at s
-session-kept n found after (line ∷ lines) text s =
-    let p : Session n found (keep line ∷ kept lines) text after = rw (kept-one line lines) at s in
+played-kept : (n : ℕ) (found after : List ℕ) (lines : List (List ℕ)) (text : List ℕ) → Played n found (kept lines) text after
+    → Played n found lines text after
+unfolding Played
+played-kept n found after [] text s = rw kept-none at s
+played-kept n found after (line ∷ lines) text s =
+    let p : Played n found (keep line ∷ kept lines) text after = rw (kept-one line lines) at s in
     record {
       next = p .next;
       answer = p .answer;
       later = p .later;
       plays = rw (kept-same lineSaid none long-line line) at (p .plays);
-      goes-on = session-kept (n + 1) (p .next) after lines (p .later) (p .goes-on);
+      goes-on = played-kept (n + 1) (p .next) after lines (p .later) (p .goes-on);
       text-is = p .text-is;
     }
 
@@ -76,7 +76,7 @@ module _ (d : Desk) (line found : List ℕ) where
   answers-none f = record {
     text = [];
     writes = record { moves = λ o {input} {text} m. rw (append-nil text) m; same = refl; stays-closed = λ o. o };
-    session = λ n e. rw f (session-none n found);
+    played = λ n e. rw f (played-none n found);
   }
 
   pub answers-found : {r : Desk} {after w out : List ℕ} {end : ℕ} → d .found ≡ true
@@ -88,11 +88,11 @@ module _ (d : Desk) (line found : List ℕ) where
       record {
         text = take (end - 0) out;
         writes = h;
-        session = λ n e.
+        played = λ n e.
             let m : d .number ≡ n + 1 = e ∙ ap (λ b. n + length (cond b (take (d .len) line ∷ []) [])) f in
             let u : take end out ≡ lineText (d .number) (s .text) = front (omega (arith, s .fits)) (s .puts) in
             let t : take (end - 0) out ≡ lineText (n + 1) (s .text) = ap (λ k. take k out) y ∙ u ∙ ap (λ k. lineText k (s .text)) m in
-            rw (f, t) (session-one n found after (take (d .len) line) (s .text) p);
+            rw (f, t) (played-one n found after (take (d .len) line) (s .text) p);
       }
 
 -- ---- how far the lines are played
@@ -101,28 +101,28 @@ pub record Playing (d : Desk) (piece line found after : List ℕ) : Type 0 where
   pub text : List ℕ
   pub lines : List (List ℕ)
   pub taken : Taken d piece line text lines
-  pub session : Session 0 found lines text after
+  pub played : Played 0 found lines text after
 
 pub playing-none : {d : Desk} → Opens d → (piece line found : List ℕ) → Playing d piece line found found
-playing-none o piece line found = record { text = []; lines = []; taken = o .taken piece line; session = session-none 0 found }
+playing-none o piece line found = record { text = []; lines = []; taken = o .taken piece line; played = played-none 0 found }
 
 module _ {d : Desk} {piece line found after : List ℕ} (s : Playing d piece line found after) where
   pub playing-refilled : {r : Desk} {piece' : List ℕ} → Refills d r piece piece' → Playing r piece' line found after
-  playing-refilled f = record { text = s .text; lines = s .lines; taken = f .taken (s .taken); session = s .session }
+  playing-refilled f = record { text = s .text; lines = s .lines; taken = f .taken (s .taken); played = s .played }
 
-  -- the session of the lines taken and of the one that was found
+  -- the lines taken and the one that was found, played
   found-on : {n r : Desk} {line' next : List ℕ} (a : Answers n r line' after next) → n .number ≡ length (s .lines ++ newLine n line')
-      → Session 0 found (s .lines ++ newLine n line') (s .text ++ a .text) next
+      → Played 0 found (s .lines ++ newLine n line') (s .text ++ a .text) next
   found-on {n} {r} {line'} {next} a e =
       let k : n .number ≡ length (s .lines) + length (newLine n line') = e ∙ length-append (s .lines) (newLine n line') in
-      session-both 0 (length (s .lines)) found after next (s .lines) (newLine n line') (s .text) (a .text) (omega arith) (s .session)
-      (a .session (length (s .lines)) k)
+      played-both 0 (length (s .lines)) found after next (s .lines) (newLine n line') (s .text) (a .text) (omega arith) (s .played)
+      (a .played (length (s .lines)) k)
 
   -- a line of the piece
   pub playing-line : {n r : Desk} {line' next : List ℕ} → NextLine d n piece line line' → Answers n r line' after next → Playing r piece line' found next
   playing-line h a =
       let x = h .taken (s .taken) in
-      record { text = s .text ++ a .text; lines = _; taken = taken-written (a .writes) x; session = found-on a (x .number-is) }
+      record { text = s .text ++ a .text; lines = _; taken = taken-written (a .writes) x; played = found-on a (x .number-is) }
 
   -- the last line
   pub playing-last : {n r : Desk} {next : List ℕ} → LastLine d n → d .begun ≤ length line → d .at ≡ d .end → (d .writable ≡ true → d .reads ≡ 0)
@@ -134,7 +134,7 @@ module _ {d : Desk} {piece line found after : List ℕ} (s : Playing d piece lin
         input = y .input;
         text = s .text ++ a .text;
         moved = y .moved;
-        session = λ o.
-            session-kept 0 found next (linesOf (y .input)) (s .text ++ a .text) (rw (y .all o) (found-on a (x .number-is)));
+        played = λ o.
+            played-kept 0 found next (linesOf (y .input)) (s .text ++ a .text) (rw (y .all o) (found-on a (x .number-is)));
         ended = y .ended;
       }
