@@ -8,12 +8,14 @@ use native.Mathlib.Omega.{arith}
 use lib.ListN.{length, take, drop, length-append, length-take, length-drop, drop-of-length-le}
 use lib.Seq.{drop-drop, take-all, take-length, length-take-le, slice-empty, length-slice}
 use Rattle.numbers.specs.Laid.{laid}
+use Rattle.numbers.proofs.Bools.{split as by}
 use Rattle.numbers.proofs.Laid.{length-laid}
 use Rattle.text_words.specs.Words.{run, longest}
 use Rattle.text_words.proofs.Words.{run-most}
 use Rattle.program_io.specs.declared.Continued.{Continued}
 use Rattle.program_io.specs.declared.Desk.{Desk}
 use Rattle.program_io.specs.Lines.{linesOf, keep, kept, goesOn, Continues}
+use Rattle.program_io.specs.Desk.{OutputFailed}
 use Rattle.program_io.specs.Desk.{
   Moved,
   pieceRoom,
@@ -37,8 +39,13 @@ use Rattle.program_io.proofs.Lines.{OneLine, one-line-nil, one-line-app
 -- ---- a text is written
 
 module _ {d r : Desk} {more : List ℕ} (w : Writes d r more) where
+  -- it was closed before, or is now
+  pub still-closed : (d .writable ≡ false → OutputFailed) → r .writable ≡ false → OutputFailed
+  still-closed c e = by (d .writable) (w .closes e) c
+
   pub taken-written : {piece line text : List ℕ} {lines : List (List ℕ)} → Taken d piece line text lines → Taken r piece line (text ++ more) lines
   taken-written {piece} {line} {text} {lines} t = record {
+    closed = still-closed (t .closed);
     input = t .input;
     moved = λ o. w .moves o (t .moved (w .stays-closed o));
     number-is = ap (λ x. x .number) (w .same) ∙ t .number-is;
@@ -52,6 +59,7 @@ module _ {d r : Desk} {more : List ℕ} (w : Writes d r more) where
 
   pub all-written : {text : List ℕ} {lines : List (List ℕ)} → AllTaken d text lines → AllTaken r (text ++ more) lines
   all-written t = record {
+    closed = still-closed (t .closed);
     input = t .input;
     moved = λ o. w .moves o (t .moved (w .stays-closed o));
     number-is = ap (λ x. x .number) (w .same) ∙ t .number-is;
@@ -83,6 +91,7 @@ module _ {d r : Desk} {piece piece' : List ℕ} (ready : Ready d piece) (used : 
 
   taken-read : {line text : List ℕ} {lines : List (List ℕ)} → Taken d piece line text lines → Taken r piece' line text lines
   taken-read {line} {text} {lines} t = record {
+    closed = λ e. t .closed (sym (ap (λ x. x .writable) (s .same)) ∙ e);
     input = t .input ++ take (r .end) piece';
     moved = λ o. s .moves (t .moved (sym (ap (λ x. x .writable) (s .same)) ∙ o));
     number-is = ap (λ x. x .number) (s .same) ∙ t .number-is;
@@ -126,6 +135,7 @@ module _ {d : Desk} {piece : List ℕ} (ready : Ready d piece) (still : d .writa
   pub refill-still : Refills d stopped piece piece
   refill-still = record {
     taken = λ {line} {text} {lines} t. record {
+      closed = t .closed;
       input = t .input;
       moved = t .moved;
       number-is = t .number-is;
@@ -184,6 +194,7 @@ module _ {d : Desk} {c : Continued} {piece line line' : List ℕ} (ready : Ready
       let w : take (run 10 v) v ≡ v = ap (λ n. take n v) r ∙ take-length v in
       record {
         taken = λ {text} {lines} t. record {
+          closed = t .closed;
           input = t .input;
           moved = t .moved;
           number-is = t .number-is ∙ ap length (sym (append-nil lines));
@@ -217,6 +228,7 @@ module _ {d : Desk} {c : Continued} {piece line line' : List ℕ} (ready : Ready
         taken = λ {text} {lines} t.
             let f = fronts (t .begun) (t .keeps) in
             record {
+              closed = t .closed;
               input = t .input;
               moved = t .moved;
               number-is = ap (λ m. m + 1) (t .number-is) ∙ sym (length-append lines (take (c .begun) line' ∷ []));
@@ -269,6 +281,7 @@ module _ (d : Desk) where
         let k = t .keeps in
         let some : 0 < length (t .begun) = keep-some (t .begun) (omega (arith, ap length k, length-take-le (d .begun) line i)) in
         record {
+          closed = t .closed;
           input = t .input;
           moved = t .moved;
           number-is = ap (λ m. m + 1) (t .number-is) ∙ sym (length-append lines (take (d .begun) line ∷ []));
@@ -287,6 +300,7 @@ module _ (d : Desk) where
     taken = λ {piece} {line} {text} {lines} t i e z.
         let b : t .begun ≡ [] = keep-none (t .begun) (t .keeps ∙ rw f) in
         record {
+          closed = t .closed;
           input = t .input;
           moved = t .moved;
           number-is = t .number-is ∙ ap length (sym (append-nil lines));

@@ -1,7 +1,7 @@
 -- The desk at which the programs that answer lines work: what was read of standard input and written to standard output, and the lines taken.
 -- Assumes nothing.
 use mathlib.Core.Path.{_≡_}
-use mathlib.Core.Bool.{Bool, true, cond}
+use mathlib.Core.Bool.{Bool, true, false, cond}
 use mathlib.Core.List.{List, [], _∷_, _++_}
 use Prim.Native.Nat.{ℕ, suc, _+_, _-_, _*_, _≤_, _<_}
 use lib.ListN.{length, take, drop}
@@ -18,6 +18,10 @@ pub data Moved : List ℕ → List ℕ → Type 0 where
   nothing-moved : Moved [] []
   read-on : {input text : List ℕ} (piece : List ℕ) → Moved input text → Moved (input ++ piece) text
   written-on : {input text : List ℕ} (more : List ℕ) → Moved input text → Moved input (text ++ more)
+
+-- A write failed, so that standard output takes no more: only the proof of `write` makes one.
+pub data OutputFailed : Type 0 where
+  output-failed : OutputFailed
 
 -- ---- sizes
 
@@ -53,6 +57,7 @@ newLine d line = cond (d .found) (take (d .len) line ∷ []) []
 -- `lines` are the lines taken of what was read; what is to come, whatever it is, makes the rest of the input's lines with what is begun and left.
 -- Where standard output is closed, nothing is said of what was read and written.
 pub record Taken (d : Desk) (piece line text : List ℕ) (lines : List (List ℕ)) : Type 0 where
+  pub closed : d .writable ≡ false → OutputFailed
   pub input : List ℕ
   pub moved : d .writable ≡ true → Moved input text
   pub number-is : d .number ≡ length lines
@@ -65,6 +70,7 @@ pub record Taken (d : Desk) (piece line text : List ℕ) (lines : List (List ℕ
 
 -- all of the input is read, and these are its lines
 pub record AllTaken (d : Desk) (text : List ℕ) (lines : List (List ℕ)) : Type 0 where
+  pub closed : d .writable ≡ false → OutputFailed
   pub input : List ℕ
   pub moved : d .writable ≡ true → Moved input text
   pub number-is : d .number ≡ length lines
@@ -89,6 +95,7 @@ pub record Writes (d r : Desk) (more : List ℕ) : Type 0 where
   pub moves : r .writable ≡ true → {input text : List ℕ} → Moved input text → Moved input (text ++ more)
   pub same : r ≡ withWritable (r .writable) d
   pub stays-closed : r .writable ≡ true → d .writable ≡ true
+  pub closes : r .writable ≡ false → d .writable ≡ true → OutputFailed
 
 -- the same desk, with another piece
 abbrev pub withPiece : ℕ → ℕ → ℕ → Desk → Desk

@@ -7,6 +7,7 @@ use mathlib.Core.Option.{none}
 use Prim.Native.Nat.{ℕ, suc, _+_, _-_, _≤_}
 use native.Mathlib.Omega.{arith}
 use lib.ListN.{length, take, length-append}
+use Rattle.numbers.proofs.Bools.{clash}
 use Rattle.text_values.proofs.Puts.{front}
 use Rattle.program_io.specs.declared.Desk.{Desk}
 use Rattle.program_io.specs.Lines.{linesOf, keep, kept}
@@ -75,7 +76,7 @@ module _ (d : Desk) (line found : List ℕ) where
   pub answers-none : d .found ≡ false → Answers d d line found found
   answers-none f = record {
     text = [];
-    writes = record { moves = λ o {input} {text} m. rw (append-nil text) m; same = refl; stays-closed = λ o. o };
+    writes = record { moves = λ o {input} {text} m. rw (append-nil text) m; same = refl; stays-closed = λ o. o; closes = λ e o. clash o e };
     played = λ n e. rw f (played-none n found);
   }
 
@@ -137,4 +138,5 @@ module _ {d : Desk} {piece line found after : List ℕ} (s : Playing d piece lin
         played = λ o.
             played-kept 0 found next (linesOf (y .input)) (s .text ++ a .text) (rw (y .all o) (found-on a (x .number-is)));
         ended = y .ended;
+        closed = y .closed;
       }

@@ -1,6 +1,6 @@
 -- What the program `trycalls` reads and writes. Assumes nothing.
 use mathlib.Core.Path.{_≡_}
-use mathlib.Core.Bool.{true}
+use mathlib.Core.Bool.{true, false}
 use mathlib.Core.List.{List, [], _∷_, _++_}
 use mathlib.Core.Option.{Option, none, some}
 use Prim.Native.Nat.{ℕ, _+_}
@@ -13,7 +13,7 @@ use Rattle.image.specs.Store.{held}
 use Rattle.program_io.specs.declared.Desk.{Desk}
 use Rattle.program_io.specs.Files.{TablesFile}
 use Rattle.program_io.specs.Lines.{linesOf}
-use Rattle.program_io.specs.Desk.{Moved, newLine, Writes}
+use Rattle.program_io.specs.Desk.{Moved, OutputFailed, newLine, Writes}
 use Rattle.call_words.specs.Calls.{lineSaid}
 use Rattle.request_lines.specs.Report.{told}
 use Rattle.call_lines.specs.Plays.{Plays, lineText}
@@ -49,7 +49,7 @@ Written (some f) tables input text = text ≡ told 0 (faultNumber f)
 Written none tables input text = OnTables tables input text
 
 -- A run: of the file `tables.bin` and of standard input. Where standard output took what was written, that is what is to be written for the two, and the
--- input was read to its end, unless the tables are refused.
+-- input was read to its end, unless the tables are refused. It took less only where a write failed.
 pub record Runs (d : Desk) : Type 0 where
   pub tables : List ℕ
   pub input : List ℕ
@@ -58,6 +58,7 @@ pub record Runs (d : Desk) : Type 0 where
   pub moved : d .writable ≡ true → Moved input text
   pub written : d .writable ≡ true → Written (imageFault tables) tables input text
   pub ended : d .writable ≡ true → imageFault tables ≡ none → d .reads ≡ 0
+  pub closed : d .writable ≡ false → OutputFailed
 
 -- ---- its parts
 
@@ -68,6 +69,7 @@ pub record Serves (d : Desk) (found after : List ℕ) : Type 0 where
   pub moved : d .writable ≡ true → Moved input text
   pub played : d .writable ≡ true → Played 0 found (linesOf input) text after
   pub ended : d .writable ≡ true → d .reads ≡ 0
+  pub closed : d .writable ≡ false → OutputFailed
 
 -- the line that was found, if one was, is played and its answer written
 pub record Answers (d r : Desk) (line found after : List ℕ) : Type 0 where

@@ -104,6 +104,7 @@ module _ (t : Tables) where
               let m = y .moved o in
               rw (← (ap (λ n. s .text ++ take n out') u ∙ k ∙ ap (report t 0) (sym (y .all o)) ∙ report-kept t 0 (linesOf (y .input)))) m;
           ended = y .ended;
+          closed = y .closed;
         }
 
   module _ {d r : Desk} {piece line out : List ℕ} {used : ℕ} (s : Telling t d piece line out used) where

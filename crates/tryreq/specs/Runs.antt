@@ -1,6 +1,6 @@
 -- What the program `tryreq` reads and writes (document 01). Assumes nothing.
 use mathlib.Core.Path.{_≡_}
-use mathlib.Core.Bool.{true, cond}
+use mathlib.Core.Bool.{true, false, cond}
 use mathlib.Core.Logic.{_⊎_}
 use mathlib.Core.List.{List, []}
 use mathlib.Core.Option.{none}
@@ -12,18 +12,19 @@ use Rattle.text_values.specs.Texts.{Puts}
 use Rattle.program_io.specs.declared.Desk.{Desk}
 use Rattle.program_io.specs.Files.{TablesFile}
 use Rattle.program_io.specs.Lines.{linesOf}
-use Rattle.program_io.specs.Desk.{Moved, pieceRoom}
+use Rattle.program_io.specs.Desk.{Moved, OutputFailed, pieceRoom}
 use Rattle.request_lines.specs.Answers.{lineAnswer}
 use Rattle.request_lines.specs.Report.{mostTold, told, report, written}
 
 -- A run: of the file `tables.bin` and of standard input. Where standard output took what was written, that is what document 01 has written for the two, and
--- the input was read to its end, unless the tables are refused.
+-- the input was read to its end, unless the tables are refused. It took less only where a write failed.
 pub record Runs (d : Desk) : Type 0 where
   pub tables : List ℕ
   pub input : List ℕ
   pub file : TablesFile tables
   pub moved : d .writable ≡ true → Moved input (written tables input)
   pub ended : d .writable ≡ true → imageFault tables ≡ none → d .reads ≡ 0
+  pub closed : d .writable ≡ false → OutputFailed
 
 -- ---- its parts
 
@@ -32,6 +33,7 @@ pub record Reports (t : Tables) (d : Desk) : Type 0 where
   pub input : List ℕ
   pub moved : d .writable ≡ true → Moved input (report t 0 (linesOf input))
   pub ended : d .writable ≡ true → d .reads ≡ 0
+  pub closed : d .writable ≡ false → OutputFailed
 
 -- what is told of the line that was found, if one was
 abbrev pub toldOf : Tables → Desk → List ℕ → List ℕ

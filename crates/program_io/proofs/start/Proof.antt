@@ -2,6 +2,7 @@
 use mathlib.Core.Path.{refl}
 use mathlib.Core.List.{[]}
 use native.Mathlib.Omega.{arith}
+use Rattle.numbers.proofs.Bools.{clash}
 use Rattle.program_io.specs.Desk.{nothing-moved}
 use Rattle.program_io.proofs.Lines.{one-line-nil}
 use Rattle.program_io.proofs.start.Statement.{statement}
@@ -10,6 +11,7 @@ use Rattle.program_io.proofs.start.Tie as tie
 returns : tie.Need-returns
 returns c = record {
   taken = λ piece line. record {
+    closed = λ e. clash refl e;
     input = [];
     moved = λ o. nothing-moved;
     number-is = refl;

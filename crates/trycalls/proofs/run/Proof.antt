@@ -8,6 +8,7 @@ use native.Mathlib.Omega.{arith}
 use lib.ListN.{take}
 use borrow.Author.Needs.{needs}
 use Rattle.image.specs.Image.{imageFault}
+use Rattle.program_io.proofs.TakenLines.{still-closed}
 use Rattle.request_lines.proofs.Told.{told-front}
 use Rattle.trycalls.proofs.Sizes.{held-size, done-none, faulty-some}
 use Rattle.trycalls.proofs.run.Statement.{statement}
@@ -35,6 +36,7 @@ returns c =
       moved = s .moved;
       written = λ o. rw q (record { store = _; after = _; holds = v .read-image .ensures .rows-are e; played = s .played o });
       ended = λ o n. s .ended o;
+      closed = s .closed;
     }
 
 returns-2 : tie.Need-returns-2
@@ -56,6 +58,7 @@ returns-2 c =
       moved = λ o. w .moves o (t .moved (w .stays-closed o));
       written = λ o. rw q (told-front 0 _ (omega arith) (a .ensures .0));
       ended = λ o n. absurd (Option·none-ne-some _ (sym n ∙ q));
+      closed = still-closed w (t .closed);
     }
 
 pub run-spec : {M : Type 1} → statement M

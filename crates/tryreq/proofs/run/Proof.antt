@@ -7,6 +7,7 @@ use Prim.Native.Nat.{_-_}
 use native.Mathlib.Omega.{arith}
 use lib.ListN.{take}
 use borrow.Author.Needs.{needs}
+use Rattle.program_io.proofs.TakenLines.{still-closed}
 use Rattle.request_lines.proofs.Told.{told-front}
 use Rattle.request_lines.proofs.Images.{image-laid, image-bad, written-laid, written-bad}
 use Rattle.tryreq.proofs.run.Statement.{statement}
@@ -28,6 +29,7 @@ returns c =
       file = rw z (f .ensures .0);
       moved = λ o. rw (written-laid _ (s .input) q) (s .moved o);
       ended = λ o n. s .ended o;
+      closed = s .closed;
     }
 
 returns-2 : tie.Need-returns-2
@@ -46,6 +48,7 @@ returns-2 c =
       file = rw z (f .ensures .0);
       moved = λ o. rw (written-bad _ q (t .input) ∙ sym told-is) (w .moves o (t .moved (w .stays-closed o)));
       ended = λ o n. absurd (Option·none-ne-some _ (sym n ∙ image-bad _ q));
+      closed = still-closed w (t .closed);
     }
 
 pub run-spec : {M : Type 1} → statement M
