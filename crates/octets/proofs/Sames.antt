@@ -2,7 +2,7 @@
 -- Octets that are the same, one after another, make the fronts of two lists the same, so much further. Assumes nothing.
 use mathlib.Core.Path.{_≡_, sym, ap, ap₂, _∙_}
 use mathlib.Core.List.{List, [], _∷_, _++_}
-use mathlib.Core.Bool.{Bool, true, _&&_}
+use mathlib.Core.Bool.{Bool, true, false, _&&_}
 use Prim.Native.Nat.{ℕ, _+_, _≤_, _<_}
 use native.Mathlib.Nat.{add-assoc}
 use native.Mathlib.Numerals.{add-one}
@@ -10,10 +10,12 @@ use native.Mathlib.Omega.{arith}
 use lib.Dec.{eqb}
 use lib.ListN.{length, take, drop, getD, length-drop}
 use lib.Seq.{take-suc, take-add, take-all}
-use borrow.Author.Tests.{eq-eqb, eqb-true}
+use borrow.Author.Tests.{eq-eqb, eqb-true, eqb-false}
 use Rattle.numbers.proofs.Bools.{test-ext, and-left, and-right, and-both}
 use Rattle.numbers.specs.BigEndian.{quad, number, bytes, Octets}
+use Rattle.numbers.specs.Order.{same}
 use Rattle.numbers.proofs.BigEndian.{octets-drop, bytes-number, quad-front}
+use Rattle.numbers.proofs.Orders.{same-true, same-eq, same-ne}
 use Rattle.octets.specs.Same.{sameFour, sameEight}
 
 -- four octets are the same exactly where the numbers are that they say
@@ -75,3 +77,18 @@ module _ (a b : List ℕ) where
   -- fronts that are the whole lists
   pub take-whole : (i : ℕ) → length a ≤ i → length b ≤ i → take i a ≡ take i b → a ≡ b
   take-whole i ha hb t = sym (take-all i a ha) ∙ t ∙ take-all i b hb
+
+  pub same-whole : (i : ℕ) → length a ≤ i → length b ≤ i → same (take i a) (take i b) ≡ same a b
+  same-whole i ha hb = ap₂ same (take-all i a ha) (take-all i b hb)
+
+  -- fronts of all but the last four octets, which are the same, or are not
+  pub same-but-four : Octets a → Octets b → (i : ℕ) → i + 4 ≡ length a → i + 4 ≡ length b → sameFour a b i ≡ true
+      → same (take i a) (take i b) ≡ same a b
+  same-but-four oa ob i ha hb s =
+      test-ext _ _
+      (λ e. let f = take-four oa ob i (omega arith) (omega arith) (same-true _ _ e) (eqb-true _ _ s) in
+      same-eq a b (take-whole (i + 4) (omega arith) (omega arith) f))
+      (λ e. same-eq _ _ (ap (take i) (same-true a b e)))
+
+  pub four-differ : (i : ℕ) → sameFour a b i ≡ false → same a b ≡ false
+  four-differ i s = same-ne a b (λ e. eqb-false _ _ s (ap (λ v. number quad (drop i v)) e))

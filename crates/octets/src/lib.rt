@@ -44,22 +44,13 @@ pub fn skip(a: &[u8], b: &[u8], from: usize, n: usize) -> usize
     i
 }
 
-// Whether both have the same octets. Names of a table mostly differ at their end, so the last octet is looked at first.
-pub fn are_same(a: &[u8], b: &[u8]) -> bool
-    ensures { λ r. ⌜ r ≡ same (now (a .entry)) (now (b .entry)) ⌝ }
+// Whether the first `n` octets are the same. As many as eight at a time go into both are compared so.
+fn same_front(a: &[u8], b: &[u8], n: usize) -> bool
+    requires first { ⌜ n ≤ length (now a) ⌝ }
+    requires second { ⌜ length (now a) ≡ length (now b) ⌝ }
+    ensures { λ r. ⌜ r ≡ same (take n (now (a .entry))) (take n (now (b .entry))) ⌝ }
 {
-    let n = a.len();
-    if n != b.len() {
-        return false;
-    }
-    if n == 0 {
-        return true;
-    }
-    let last = n - 1;
-    if a[last] != b[last] {
-        return false;
-    }
-    let mut i = skip(a, b, 0, n);
+    let mut i = skip(a, b, 0, a.len());
     while i < n {
         if a[i] != b[i] {
             return false;
@@ -67,6 +58,24 @@ pub fn are_same(a: &[u8], b: &[u8]) -> bool
         i += 1;
     }
     true
+}
+
+// Whether both have the same octets. Names of a table mostly differ at their end, so the last four are looked at first, by one comparison.
+pub fn are_same(a: &[u8], b: &[u8]) -> bool
+    ensures { λ r. ⌜ r ≡ same (now (a .entry)) (now (b .entry)) ⌝ }
+{
+    let n = a.len();
+    if n != b.len() {
+        return false;
+    }
+    if n < 4 {
+        return same_front(a, b, n);
+    }
+    let last = n - 4;
+    if !same_four(a, b, last) {
+        return false;
+    }
+    same_front(a, b, last)
 }
 
 // ---- order
