@@ -18,12 +18,13 @@ use Rattle.line_fields.specs.declared.Kind.{Kind}
 use Rattle.text_rows.specs.declared.Slot.{Slot}
 use Rattle.line_fields.specs.Kinds.{Value, valueAt, partsAt, numberAt, editAt, valuesSaid}
 use Rattle.line_fields.specs.Slots.{side, inParts, kindIn, slotIn, partIn, numberIn, valueIn, Holds, Fit, Whole}
+use Rattle.line_fields.specs.Buffers.{Buffers, fieldsInto}
 use Rattle.line_fields.proofs.RequestSlots.{request-held}
 use Rattle.call_words.specs.declared.Verb.{Verb}
 use Rattle.call_words.specs.declared.Verb.the-variants.{Decide, Owner, Principal, Encode, Decode, Image, Unknown}
 use Rattle.call_words.specs.declared.Read.{Read}
 use Rattle.call_words.specs.Calls.{kindsOf, Asked, calls, encodes, decodes, meaning, verbNamed, verbSaid, wordsSaid, lineSaid}
-use Rattle.call_words.specs.Reading.{editIn, askedIn, ReadsCall}
+use Rattle.call_words.specs.Reading.{editIn, askedIn, ReadsCall, lineInto}
 
 -- no word has more fields than slots
 pub kinds-few : (v : Verb) → length (kindsOf v) ≤ 6
@@ -41,6 +42,10 @@ pub long-line : (line : List ℕ) → longest < length line → lineSaid line �
 unfolding lineSaid
 long-line line h = rw (lt-leb (length line) longest h)
 
+pub long-into : (line : List ℕ) (b : Buffers) → longest < length line → b ≡ lineInto line b
+unfolding lineInto
+long-into line b h = rw (lt-leb (length line) longest h)
+
 -- what nothing known says
 pub reads-nothing : {slots : List Slot} (bytes parts : List ℕ) {said : Option Asked} → said ≡ none
     → ReadsCall (record { verb = Unknown; slots = slots }) bytes parts said
@@ -52,6 +57,10 @@ module _ (line : List ℕ) (h : length line ≤ longest) {end : ℕ} (w : WordAt
   worded = rw (le-leb (length line) longest h, sym (from-start line) ∙ w .is)
 
   module _ {v : Verb} (e : v ≡ verbNamed (between 0 end line)) where
+    pub line-into : (b : Buffers) → fieldsInto (kindsOf v) line (wordsFrom (end + 1) line) b ≡ lineInto line b
+    unfolding lineInto
+    line-into b = rw (le-leb (length line) longest h, sym (from-start line) ∙ w .is, ← e)
+
     pub line-nothing : valuesSaid (kindsOf v) (wordsFrom (end + 1) line) ≡ none → lineSaid line ≡ none
     unfolding bind
     line-nothing n = worded ∙ rw (← e, n)

@@ -1,19 +1,23 @@
 -- What the code reads of a line: what it asks for by its word, and a slot for each field; and the calls that slots hold. Assumes nothing.
 use mathlib.Core.Path.{_≡_}
-use mathlib.Core.List.{List}
+use mathlib.Core.Bool.{cond}
+use mathlib.Core.List.{List, [], _∷_}
 use mathlib.Core.Option.{Option, none, some}
 use Prim.Native.Nat.{ℕ, _≤_, _<_}
+use lib.Dec.{leb}
 use lib.ListN.{length}
 use Rattle.edit_rules.specs.Edits.{Edit, editOf, callerOf}
 use Rattle.edits.specs.Does.{Call, ask, owner, by, Reply, replyNumber, Does}
+use Rattle.text_words.specs.Words.{longest, words}
 use Rattle.text_rows.specs.declared.Slot.{Slot}
 use Rattle.line_fields.specs.Kinds.{Value, valueAt}
 use Rattle.line_fields.specs.Requests.{requestIn}
 use Rattle.line_fields.specs.Slots.{lineRoom, side, inParts, kindIn, slotIn, partIn, numberIn, Holds}
+use Rattle.line_fields.specs.Buffers.{Buffers, fieldsInto}
 use Rattle.call_words.specs.declared.Verb.{Verb}
 use Rattle.call_words.specs.declared.Verb.the-variants.{Decide, Owner, Principal, Encode, Decode, Image, Unknown}
 use Rattle.call_words.specs.declared.Read.{Read}
-use Rattle.call_words.specs.Calls.{kindsOf, Asked, calls, encodes, decodes, images, meaning}
+use Rattle.call_words.specs.Calls.{verbNamed, kindsOf, Asked, calls, encodes, decodes, images, meaning}
 
 -- ---- what slots hold
 
@@ -49,6 +53,15 @@ pub record ReadsCall (r : Read) (bytes parts : List ℕ) (said : Option Asked) :
   pub means : said ≡ meaning (r .verb) values
   pub holds : (i : ℕ) → i < length (kindsOf (r .verb))
       → Holds (slotIn (r .slots) i) (valueAt i values) (side (inParts (kindIn (kindsOf (r .verb)) i)) bytes parts)
+
+-- what is left in the buffers: the fields behind the word, read by its kinds
+abbrev pub wordsInto : List ℕ → List (List ℕ) → Buffers → Buffers
+wordsInto line [] b = b
+wordsInto line (w ∷ ws) b = fieldsInto (kindsOf (verbNamed w)) line ws b
+
+-- a longer line leaves both as found
+unfoldable pub lineInto : List ℕ → Buffers → Buffers
+lineInto line b = cond (leb (length line) longest) (wordsInto line (words line) b) b
 
 -- ---- a call made
 

@@ -9,9 +9,10 @@ ghost use lib.ListN.{length};
 ghost use Rattle.edits.specs.Does.{ask};
 ghost use Rattle.line_fields.specs.Requests.{requestIn};
 ghost use Rattle.line_fields.specs.Slots.{Lists, Fit};
+ghost use Rattle.line_fields.specs.Buffers.{buffers};
 ghost use Rattle.call_words.specs.declared.Verb.the-variants.{Decide, Owner, Principal};
 ghost use Rattle.call_words.specs.Calls.{verbNamed, kindsOf, lineSaid};
-ghost use Rattle.call_words.specs.Reading.{ReadsCall, Answers, ownerIn, principalIn, Rooms};
+ghost use Rattle.call_words.specs.Reading.{ReadsCall, lineInto, Answers, ownerIn, principalIn, Rooms};
 
 // ---- what a line asks for
 
@@ -93,7 +94,8 @@ pub struct Read {
 // Reads a line; one that is too long, or does not say each field of its word, asks for nothing known.
 pub fn read_call(line: &[u8], bytes: &mut [u8], parts: &mut [u32]) -> Read
     requires { ⌜ Rooms (now bytes) (now parts) ⌝ }
-    ensures { λ r. ⌜ ReadsCall r (now (bytes .exit)) (now (parts .exit)) (lineSaid (now (line .entry))) ⌝ }
+    ensures reads { λ r. ⌜ ReadsCall r (now (bytes .exit)) (now (parts .exit)) (lineSaid (now (line .entry))) ⌝ }
+    ensures lays { λ r. ⌜ buffers (now (bytes .exit)) (now (parts .exit)) ≡ lineInto (now (line .entry)) (buffers (now (bytes .entry)) (now (parts .entry))) ⌝ }
 {
     if LONGEST_LINE < line.len() {
         let slots = line_fields::no_slots();

@@ -1,25 +1,27 @@
 -- A field that is found: one word, a row or a key, or an edit, whose slot holds what the words say. Assumes nothing.
-use mathlib.Core.Path.{_≡_, sym, ap, _∙_}
+use mathlib.Core.Path.{_≡_, refl, sym, ap, _∙_}
 use mathlib.Core.Bool.{Bool, true, false}
 use mathlib.Core.List.{List, [], _∷_}
-use mathlib.Core.Option.{Option, none, some, bind}
+use mathlib.Core.Option.{Option, none, some, bind, Option·elim}
 use Prim.Native.Nat.{ℕ, suc, _+_, _*_, _≤_}
 use native.Mathlib.Omega.{arith}
 use lib.ListN.{length}
 use Rattle.numbers.specs.Laid.{laid}
+use Rattle.numbers.proofs.Laid.{laid-nil}
 use Rattle.rows.specs.declared.Operation.{Operation}
 use Rattle.text_words.specs.declared.Filled.{Filled}
 use Rattle.text_words.specs.declared.Filled.the-variants.{Upto, Malformed}
 use Rattle.text_words.specs.Words.{between, wordsFrom, Fills}
-use Rattle.text_words.proofs.Kept.{kept-less}
 use Rattle.text_words.proofs.WordsFrom.{WordAt, word-length}
 use Rattle.text_fields.specs.RowWords.{Roomy}
-use Rattle.text_rows.specs.EntryWords.{entrySaid, Enters}
+use Rattle.text_rows.specs.EntryWords.{entrySaid, entryFront, Enters}
+use Rattle.text_rows.proofs.EntryWords.{unlaid}
 use Rattle.line_fields.specs.declared.Kind.{Kind}
 use Rattle.line_fields.specs.declared.Kind.the-variants.{Number, Name, Identifier, Key, Edit}
 use Rattle.text_rows.specs.declared.Found.{Found}
 use Rattle.line_fields.specs.Kinds.{oneWord, operationNamed, entered, edited, editSaid, kindSaid}
-use Rattle.line_fields.specs.Slots.{side, wordFound, Lent, Finds}
+use Rattle.line_fields.specs.Slots.{inParts, side, wordFound, Lent, Finds}
+use Rattle.line_fields.specs.Buffers.{buffers, wordFront, editFront, kindFront, laidIn}
 
 -- room for what the words from a place on say
 pub bytes-roomy : {line : List ℕ} {at : ℕ} {bytes parts : List ℕ} → Lent line at bytes parts → Roomy line at bytes (4 * at)
@@ -34,6 +36,15 @@ none-said Identifier at line e = rw e
 none-said Key at line e = rw e
 none-said Edit at line e = rw e
 
+pub none-lays : (k : Kind) (at : ℕ) (line bytes parts : List ℕ) → wordsFrom at line ≡ []
+    → buffers bytes parts ≡ laidIn (inParts k) (4 * at) (kindFront k (wordsFrom at line)) (buffers bytes parts)
+unfolding kindFront entryFront
+none-lays Number at line bytes parts e = rw e (ap (λ u. buffers bytes u) (sym (laid-nil (4 * at) parts)))
+none-lays Name at line bytes parts e = rw e (ap (λ u. buffers u parts) (sym (laid-nil (4 * at) bytes)))
+none-lays Identifier at line bytes parts e = rw e (ap (λ u. buffers bytes u) (sym (laid-nil (4 * at) parts)))
+none-lays Key at line bytes parts e = rw e (ap (λ u. buffers u parts) (sym (laid-nil (4 * at) bytes)))
+none-lays Edit at line bytes parts e = rw e (ap (λ u. buffers u parts) (sym (laid-nil (4 * at) bytes)))
+
 -- ---- one word
 
 module _ {at : ℕ} {line : List ℕ} {end : ℕ} (w : WordAt at line end) where
@@ -41,38 +52,42 @@ module _ {at : ℕ} {line : List ℕ} {end : ℕ} (w : WordAt at line end) where
   word-room true l = omega (arith, word-length w, w .inside, l .line-short, l .parts-room)
   word-room false l = omega (arith, word-length w, w .inside, l .line-short, l .bytes-room)
 
-  pub lent-behind : {bytes parts : List ℕ} → Lent line at bytes parts → Lent line (end + 1) bytes parts
-  lent-behind l =
-      record { line-short = l .line-short; at-in = omega (arith, w .inside); bytes-room = l .bytes-room; parts-room = l .parts-room }
+  -- and room for what the words behind it say, in its place
+  pub behind-roomy : {bytes parts : List ℕ} → Lent line at bytes parts → Roomy line (end + 1) bytes (4 * at)
+  behind-roomy l =
+      record { line-short = l .line-short; at-in = omega (arith, w .inside); room = omega (arith, l .line-short, l .bytes-room, w .forward) }
 
   pub word-finds : (says : List ℕ → Option (List ℕ)) (filled : Filled) {most : ℕ} (found out : List ℕ)
       → Fills filled (4 * at) most found out (says (between at end line)) → most ≤ suc (length (between at end line))
-      → Finds (wordFound filled (4 * at) (end + 1)) at line found out (oneWord says (wordsFrom at line))
-  word-finds says Malformed found out f m = record { is = rw (w .is, f .is); kept = f .kept }
+      → Finds (wordFound filled (4 * at) (end + 1)) (4 * at) at line (oneWord says (wordsFrom at line))
+  word-finds says Malformed found out f m = rw (w .is, f .is)
   word-finds says (Upto n) found out f m = record {
     of = f .of;
     is = rw (w .is, f .is);
-    lays = f .lays;
+    begins = refl;
     ends = f .ends;
-    inside = f .inside;
-    begins = omega arith;
     short = omega (arith, f .short, word-length w);
     next-in = omega (arith, w .inside);
   }
 
+  pub word-lays : (says : List ℕ → Option (List ℕ)) (filled : Filled) (most : ℕ) (found out : List ℕ)
+      → Fills filled (4 * at) most found out (says (between at end line)) → out ≡ laid (4 * at) (wordFront says (wordsFrom at line)) found
+  word-lays says Malformed most found out f =
+      let e : wordFront says (wordsFrom at line) ≡ [] = rw (w .is, f .is) in f .kept ∙ unlaid (4 * at) found e
+  word-lays says (Upto n) most found out f =
+      let e : wordFront says (wordsFrom at line) ≡ f .of = rw (w .is, f .is) in f .lays ∙ ap (λ u. laid (4 * at) u found) (sym e)
+
 -- ---- a row or a key
 
-pub entry-finds : (o : Operation) (r : Found) (at : ℕ) (line found out : List ℕ)
-    → Enters r o (4 * at) at line found out (entrySaid o (wordsFrom at line)) → Finds r at line found out (entered o (entrySaid o (wordsFrom at line)))
-entry-finds o Found.Malformed at line found out u = record { is = ap (entered o) (u .is); kept = u .kept }
-entry-finds o (Found.At s next) at line found out e = record {
+pub entry-finds : (o : Operation) (r : Found) (from at room : ℕ) (line : List ℕ)
+    → Enters r o from at room line (entrySaid o (wordsFrom at line)) → Finds r from at line (entered o (entrySaid o (wordsFrom at line)))
+entry-finds o Found.Malformed from at room line n = ap (entered o) n
+entry-finds o (Found.At s next) from at room line e = record {
   of = e .of;
   is = rw (e .is, e .operation-is);
-  lays = e .lays ∙ ap (λ n. laid n (e .of) found) (sym (e .begins));
-  ends = omega (arith, e .ends, e .begins);
-  inside = e .inside;
-  begins = omega (arith, e .begins);
-  short = omega (arith, e .short);
+  begins = e .begins;
+  ends = e .ends;
+  short = e .short;
   next-in = e .next-in;
 }
 
@@ -83,22 +98,34 @@ module _ (w : List ℕ) (ws : List (List ℕ)) where
   unfolding bind
   edit-named e = rw (← e)
 
-  pub edit-other : none ≡ operationNamed w → edited w ws ≡ none
-  unfolding bind
-  edit-other e = rw (← e)
+  pub edit-front : {o : Operation} → some o ≡ operationNamed w → editFront w ws ≡ entryFront o ws
+  unfolding Option·elim
+  edit-front e = rw (← e)
 
-pub edit-finds : {at : ℕ} {line : List ℕ} {end : ℕ} → WordAt at line end → (r : Found) (found out : List ℕ)
-    → Finds r (end + 1) line found out (edited (between at end line) (wordsFrom (end + 1) line))
-    → Finds r at line found out (editSaid (wordsFrom at line))
-edit-finds {at} {line} {end} w Found.Malformed found out u =
-    record { is = rw (w .is) (u .is); kept = kept-less (4 * at) (4 * (end + 1)) out found (omega (arith, w .forward)) (u .kept) }
-edit-finds {at} {line} {end} w (Found.At s next) found out f = record {
-  of = f .of;
-  is = rw (w .is) (f .is);
-  lays = f .lays;
-  ends = f .ends;
-  inside = f .inside;
-  begins = omega (arith, f .begins, w .forward);
-  short = f .short;
-  next-in = f .next-in;
-}
+  -- no operation is named
+  module _ (e : none ≡ operationNamed w) where
+    pub edit-other : edited w ws ≡ none
+    unfolding bind
+    edit-other = rw (← e)
+
+    pub other-front : editFront w ws ≡ []
+    unfolding Option·elim
+    other-front = rw (← e)
+
+module _ {at : ℕ} {line : List ℕ} {end : ℕ} (w : WordAt at line end) where
+  pub edit-finds : (r : Found) (from : ℕ) → Finds r from (end + 1) line (edited (between at end line) (wordsFrom (end + 1) line))
+      → Finds r from at line (editSaid (wordsFrom at line))
+  edit-finds Found.Malformed from n = rw (w .is) n
+  edit-finds (Found.At s next) from f = record {
+    of = f .of;
+    is = rw (w .is) (f .is);
+    begins = f .begins;
+    ends = f .ends;
+    short = omega (arith, f .short, w .forward);
+    next-in = f .next-in;
+  }
+
+  pub edit-lays : (from : ℕ) (found : List ℕ) {out : List ℕ} → out ≡ laid from (editFront (between at end line) (wordsFrom (end + 1) line)) found
+      → out ≡ laid from (kindFront Edit (wordsFrom at line)) found
+  unfolding kindFront
+  edit-lays from found e = rw (w .is) e

@@ -1,4 +1,5 @@
 pub mod Fronts
+pub mod Buffers
 pub mod FieldSlots
 pub mod LineSlots
 pub mod RequestSlots

@@ -12,15 +12,17 @@ use lib.ListN.{length, take, drop, set, length-append, drop-of-length-le, List·
 use lib.Seq.{length-take-le, drop-cons, getD-set-same, getD-set-other, getD-at, getD-take}
 use borrow.Author.Tests.{ltb-true, ltb-false}
 use Rattle.numbers.proofs.Bools.{split as by}
+use Rattle.numbers.specs.Laid.{laid}
 use Rattle.text_words.specs.Words.{between, wordsFrom}
-use Rattle.text_words.proofs.Kept.{kept-less, laid-kept, laid-between}
+use Rattle.text_words.proofs.Kept.{laid-kept, laid-between}
 use Rattle.text_words.proofs.WordsFrom.{none-from, word-over}
 use Rattle.line_fields.specs.declared.Kind.{Kind}
 use Rattle.line_fields.specs.declared.Kind.the-variants.{Number}
 use Rattle.text_rows.specs.declared.Slot.{Slot}
-use Rattle.text_rows.specs.declared.Found.the-variants.{At}
 use Rattle.line_fields.specs.Kinds.{Value, valueOf, valueAt, plain, Taken, taken, kindSaid, valuesSaid}
-use Rattle.line_fields.specs.Slots.{inParts, side, kindIn, slotIn, valueIn, plainSlot, Within, Lies, Adds, Lent, ReadsFields}
+use Rattle.line_fields.specs.Slots.{inParts, side, kindIn, slotIn, valueIn, plainSlot, Within, Lies, Lent, ReadsFields}
+use Rattle.line_fields.specs.Buffers.{buffers, kindFront, laidIn}
+use Rattle.line_fields.proofs.Buffers.{kind-front}
 use Rattle.line_fields.proofs.Fronts.{between-kept}
 
 -- ---- the kinds left, by their places
@@ -35,24 +37,57 @@ kinds-gone ks n i h l = let m : length (take n ks) ≤ i = omega (arith, length-
 
 -- ---- one field more: its value, and in both buffers what lies before it stays
 
-module _ {s : Slot} {next at : ℕ} {line found out : List ℕ} {said : Option Taken} (l : Lies s next at line found out said) where
-  lies-value : said ≡ some (taken (valueIn s out) (wordsFrom next line))
-  lies-value =
-      let e : between (s .from) (s .end) out ≡ l .of =
-      ap (between (s .from) (s .end)) (l .lays) ∙ laid-between (s .from) (s .end) (l .of) found (l .ends) (omega (arith, l .ends, l .inside)) in
-      l .is ∙ ap (λ x. some (taken (valueOf (s .operation) (s .table) x) (wordsFrom next line))) (sym e)
+room : (b : Bool) {line : List ℕ} {at : ℕ} {bytes parts : List ℕ} → Lent line at bytes parts → 4 * at ≤ length (side b bytes parts)
+room true l = omega (arith, l .line-short, l .at-in, l .parts-room)
+room false l = omega (arith, l .line-short, l .at-in, l .bytes-room)
 
-  lies-kept : take (4 * at) out ≡ take (4 * at) found
-  lies-kept =
-      kept-less (4 * at) (s .from) out found (l .begins)
-      (ap (take (s .from)) (l .lays) ∙ laid-kept (s .from) (l .of) found (omega (arith, l .ends, l .inside)))
+-- the front that was laid into its buffer is the value that its slot holds
+pub record Adds (b : Bool) (s : Slot) (next at : ℕ) (line bytes bytes' parts parts' : List ℕ) (said : Option Taken) : Type 0 where
+  pub lies : Lies s next (4 * at) at line said
+  lays : side b bytes' parts' ≡ laid (4 * at) (lies .of) (side b bytes parts)
+  other : side b parts' bytes' ≡ side b parts bytes
 
-adds-kept : (b : Bool) {s : Slot} {next at : ℕ} {line bytes bytes' parts parts' : List ℕ} {said : Option Taken}
-    → Adds b (At s next) at line bytes bytes' parts parts' said → (c : Bool) → take (4 * at) (side c bytes' parts') ≡ take (4 * at) (side c bytes parts)
-adds-kept true a true = lies-kept (a .finds)
-adds-kept true {at = at} a false = ap (take (4 * at)) (a .other)
-adds-kept false {at = at} a true = ap (take (4 * at)) (a .other)
-adds-kept false a false = lies-kept (a .finds)
+sided : (b : Bool) (at : ℕ) (x bytes parts : List ℕ) {bytes' parts' : List ℕ} → buffers bytes' parts' ≡ laidIn b at x (buffers bytes parts)
+    → side b bytes' parts' ≡ laid at x (side b bytes parts)
+sided true at x bytes parts e = ap (λ u. u .parts) e
+sided false at x bytes parts e = ap (λ u. u .bytes) e
+
+stays : (b : Bool) (at : ℕ) (x bytes parts : List ℕ) {bytes' parts' : List ℕ} → buffers bytes' parts' ≡ laidIn b at x (buffers bytes parts)
+    → side b parts' bytes' ≡ side b parts bytes
+stays true at x bytes parts e = ap (λ u. u .bytes) e
+stays false at x bytes parts e = ap (λ u. u .parts) e
+
+pub adds : (k : Kind) {s : Slot} {next at : ℕ} {line : List ℕ} (bytes parts : List ℕ) {bytes' parts' : List ℕ}
+    → Lies s next (4 * at) at line (kindSaid k (wordsFrom at line))
+    → buffers bytes' parts' ≡ laidIn (inParts k) (4 * at) (kindFront k (wordsFrom at line)) (buffers bytes parts)
+    → Adds (inParts k) s next at line bytes bytes' parts parts' (kindSaid k (wordsFrom at line))
+adds k {at = at} {line = line} bytes parts l e = record {
+  lies = l;
+  lays =
+      sided (inParts k) (4 * at) (kindFront k (wordsFrom at line)) bytes parts e
+      ∙ ap (λ u. laid (4 * at) u (side (inParts k) bytes parts)) (kind-front k (wordsFrom at line) (l .is));
+  other = stays (inParts k) (4 * at) (kindFront k (wordsFrom at line)) bytes parts e;
+}
+
+module _ (b : Bool) {s : Slot} {next at : ℕ} {line bytes bytes' parts parts' : List ℕ} {said : Option Taken} (l : Lent line at bytes parts)
+    (a : Adds b s next at line bytes bytes' parts parts' said) where
+  adds-value : said ≡ some (taken (valueIn s (side b bytes' parts')) (wordsFrom next line))
+  adds-value =
+      let f = a .lies in
+      let e : between (s .from) (s .end) (side b bytes' parts') ≡ f .of =
+      ap (between (s .from) (s .end)) (a .lays) ∙ ap (λ n. between n (s .end) (laid (4 * at) (f .of) (side b bytes parts))) (f .begins)
+      ∙ laid-between (4 * at) (s .end) (f .of) (side b bytes parts) (f .ends) (room b l) in
+      f .is ∙ ap (λ x. some (taken (valueOf (s .operation) (s .table) x) (wordsFrom next line))) (sym e)
+
+  own-kept : take (4 * at) (side b bytes' parts') ≡ take (4 * at) (side b bytes parts)
+  own-kept = ap (take (4 * at)) (a .lays) ∙ laid-kept (4 * at) (a .lies .of) (side b bytes parts) (room b l)
+
+adds-kept : (b : Bool) {s : Slot} {next at : ℕ} {line bytes bytes' parts parts' : List ℕ} {said : Option Taken} → Lent line at bytes parts
+    → Adds b s next at line bytes bytes' parts parts' said → (c : Bool) → take (4 * at) (side c bytes' parts') ≡ take (4 * at) (side c bytes parts)
+adds-kept true l a true = own-kept true l a
+adds-kept true {at = at} l a false = ap (take (4 * at)) (a .other)
+adds-kept false {at = at} l a true = ap (take (4 * at)) (a .other)
+adds-kept false l a false = own-kept false l a
 
 -- ---- what a slot holds, as long as what lies before a place stays
 
@@ -68,10 +103,6 @@ held-kept {s} {v} {w} {after} {m} h k l = record {
       (between-kept (s .from) (s .end) m w after (h .within .forward) (h .within .inside) k);
   within = record { forward = h .within .forward; inside = omega (arith, h .within .inside) };
 }
-
-room : (b : Bool) {line : List ℕ} {at : ℕ} {bytes parts : List ℕ} → Lent line at bytes parts → 4 * at ≤ length (side b bytes parts)
-room true l = omega (arith, l .line-short, l .at-in, l .parts-room)
-room false l = omega (arith, l .line-short, l .at-in, l .bytes-room)
 
 -- ---- all of them
 
@@ -118,7 +149,7 @@ module _ {all : Option (List Value)} {line : List ℕ} {kinds : List Kind} {slot
     way-bad e = y .makes ∙ rw e
 
     module _ {s : Slot} {next : ℕ} {bytes' parts' : List ℕ} (h : i < length slots) (eb : length bytes' ≡ length bytes) (ep : length parts' ≡ length parts)
-        (a : Adds (inParts (kindIn kinds i)) (At s next) at line bytes bytes' parts parts' (kindSaid (kindIn kinds i) (wordsFrom at line))) where
+        (a : Adds (inParts (kindIn kinds i)) s next at line bytes bytes' parts parts' (kindSaid (kindIn kinds i) (wordsFrom at line))) where
       abbrev new : Value
       new = valueIn s (side (inParts (kindIn kinds i)) bytes' parts')
 
@@ -129,7 +160,10 @@ module _ {all : Option (List Value)} {line : List ℕ} {kinds : List Kind} {slot
       value-new = getD-at (y .done) new [] (plain []) i (y .count)
 
       holds-new : Held (slotIn (set slots i s) i) (valueAt i (y .done ++ (new ∷ []))) (side (inParts (kindIn kinds i)) bytes' parts') (4 * next)
-      holds-new = rw (slot-new, value-new) (record { is = refl; within = record { forward = omega (arith, a .finds .ends); inside = a .finds .short } })
+      holds-new =
+          let f = a .lies in
+          let w : Within s (4 * next) = record { forward = omega (arith, f .begins, f .ends); inside = omega (arith, f .short) } in
+          rw (slot-new, value-new) (record { is = refl; within = w })
 
       holds-old : (j : ℕ) → j < i
           → Held (slotIn (set slots i s) j) (valueAt j (y .done ++ (new ∷ []))) (side (inParts (kindIn kinds j)) bytes' parts') (4 * next)
@@ -137,19 +171,19 @@ module _ {all : Option (List Value)} {line : List ℕ} {kinds : List Kind} {slot
           let d : slotIn (set slots i s) j ≡ slotIn slots j = getD-set-other slots i j s (plainSlot 0 0) (λ e. omega arith) in
           let e : valueAt j (y .done ++ (new ∷ [])) ≡ valueAt j (y .done) =
           List·getD-append (y .done) (new ∷ []) (plain []) j (omega (arith, y .count)) in
-          let m : 4 * at ≤ 4 * next = omega (arith, a .finds .begins, a .finds .ends, a .finds .short) in
-          rw (d, e) (held-kept (y .holds j l) (adds-kept (inParts (kindIn kinds i)) a (inParts (kindIn kinds j))) m)
+          let m : 4 * at ≤ 4 * next = omega (arith, a .lies .ends, a .lies .short) in
+          rw (d, e) (held-kept (y .holds j l) (adds-kept (inParts (kindIn kinds i)) (y .lent) a (inParts (kindIn kinds j))) m)
 
       pub way-next : OnWay all line kinds (set slots i s) bytes' parts' (i + 1) next left
       unfolding valuesSaid bind
       way-next = record {
         done = y .done ++ (new ∷ []);
         count = length-append (y .done) (new ∷ []) ∙ omega (arith, y .count);
-        makes = y .makes ∙ rw (lies-value (a .finds)) (before-next (y .done) new (valuesSaid left (wordsFrom next line)));
+        makes = y .makes ∙ rw (adds-value (inParts (kindIn kinds i)) (y .lent) a) (before-next (y .done) new (valuesSaid left (wordsFrom next line)));
         lent =
             record {
               line-short = y .lent .line-short;
-              at-in = a .finds .next-in;
+              at-in = a .lies .next-in;
               bytes-room = rw eb (y .lent .bytes-room);
               parts-room = rw ep (y .lent .parts-room);
             };

@@ -1,3 +1,4 @@
 pub mod Kinds
 pub mod Slots
+pub mod Buffers
 pub mod Requests

@@ -7,8 +7,7 @@ use Prim.Native.Nat.{ℕ, suc, _+_, _*_, _≤_, _<_}
 use lib.ListN.{length, take, getD, replicate}
 use Rattle.rows.specs.declared.Operation.the-variants.{Put}
 use Rattle.rows.specs.declared.Table.the-variants.{Context}
-use Rattle.numbers.specs.Laid.{laid}
-use Rattle.text_words.specs.Words.{longest, between, wordsFrom, Unfilled}
+use Rattle.text_words.specs.Words.{longest, between, wordsFrom}
 use Rattle.text_words.specs.declared.Filled.{Filled}
 use Rattle.text_rows.specs.declared.Slot.{Slot}
 use Rattle.text_rows.specs.declared.Found.{Found}
@@ -79,30 +78,23 @@ pub record Lent (line : List ℕ) (at : ℕ) (bytes parts : List ℕ) : Type 0 w
   pub bytes-room : lineRoom ≤ length bytes
   pub parts-room : lineRoom ≤ length parts
 
--- its value was laid where the slot says, behind all that the words before `at` make, and in front of what those from `next` on make
-pub record Lies (s : Slot) (next at : ℕ) (line found out : List ℕ) (said : Option Taken) : Type 0 where
+-- its value lies where the slot says, from `from` on and in front of what the words from `next` on make
+pub record Lies (s : Slot) (next from at : ℕ) (line : List ℕ) (said : Option Taken) : Type 0 where
   pub of : List ℕ
   pub is : said ≡ some (taken (valueOf (s .operation) (s .table) of) (wordsFrom next line))
-  pub lays : out ≡ laid (s .from) of found
-  pub ends : s .end ≡ s .from + length of
-  pub inside : s .end ≤ length found
-  pub begins : 4 * at ≤ s .from
-  pub short : s .end ≤ 4 * next
+  pub begins : s .from ≡ from
+  pub ends : s .end ≡ from + length of
+  pub short : s .end + 4 * at ≤ from + 4 * next
   pub next-in : next ≤ suc (length line)
 
-abbrev pub Finds : Found → (at : ℕ) (line found out : List ℕ) → Option Taken → Type 0
-Finds (Found.At s next) at line found out said = Lies s next at line found out said
-Finds Found.Malformed at line found out said = Unfilled (4 * at) found out said
+abbrev pub Finds : Found → (from at : ℕ) (line : List ℕ) → Option Taken → Type 0
+Finds (Found.At s next) from at line said = Lies s next from at line said
+Finds Found.Malformed from at line said = said ≡ none
 
 -- what one word was read into
 abbrev pub wordFound : Filled → (from next : ℕ) → Found
 wordFound (Filled.Upto end) from next = Found.At (plainSlot from end) next
 wordFound Filled.Malformed from next = Found.Malformed
-
--- it lies in the buffer of its kind, and the other stays
-pub record Adds (inParts : Bool) (r : Found) (at : ℕ) (line bytes bytes' parts parts' : List ℕ) (said : Option Taken) : Type 0 where
-  pub finds : Finds r at line (side inParts bytes parts) (side inParts bytes' parts') said
-  pub other : side inParts parts' bytes' ≡ side inParts parts bytes
 
 -- ---- the fields of a line
 

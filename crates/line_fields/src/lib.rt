@@ -11,11 +11,13 @@ use text_words::Word;
 ghost use mathlib.Core.Path.{_≡_};
 ghost use lib.ListN.{length, take};
 ghost use Prim.Native.Nat.{_*_, _<_};
+ghost use Rattle.numbers.specs.Laid.{laid};
 ghost use Rattle.text_words.specs.Words.{wordsFrom, Fills};
 ghost use Rattle.text_fields.specs.RowWords.{Roomy};
 ghost use Rattle.line_fields.specs.Kinds.{number as Kinds·number, edited, kindSaid, valuesSaid};
 ghost use Rattle.line_fields.specs.Requests.{requestKinds};
-ghost use Rattle.line_fields.specs.Slots.{numberIn, partIn, noSlots, wordFound, Kinds, Lists, inParts, Within, Finds, Adds, Lent, ReadsFields};
+ghost use Rattle.line_fields.specs.Slots.{numberIn, partIn, noSlots, wordFound, Kinds, Lists, inParts, Within, Finds, Lent, ReadsFields};
+ghost use Rattle.line_fields.specs.Buffers.{buffers, editFront, kindFront, laidIn, fieldsInto};
 
 // The most fields of a line.
 pub const MOST_FIELDS: usize = 6;
@@ -64,11 +66,11 @@ fn one_word(filled: Filled, from: usize, next: usize) -> Found
     )
 }
 
-// What the operation that a word names is handed, from the word that begins at `at` on.
-fn edit(word: &[u8], line: &[u8], at: usize, bytes: &mut [u8]) -> Found
-    requires { ⌜ Roomy (now line) at (now bytes) (4 * at) ⌝ }
-    ensures { λ r. ⌜ Finds r at (now (line .entry)) (now (bytes .entry)) (now (bytes .exit))
-        (edited (now (word .entry)) (wordsFrom at (now (line .entry)))) ⌝ }
+// What the operation that a word names is handed, from the word that begins at `at` on, in `bytes` from `from` on.
+fn edit(word: &[u8], line: &[u8], at: usize, bytes: &mut [u8], from: usize) -> Found
+    requires { ⌜ Roomy (now line) at (now bytes) from ⌝ }
+    ensures finds { λ r. ⌜ Finds r from at (now (line .entry)) (edited (now (word .entry)) (wordsFrom at (now (line .entry)))) ⌝ }
+    ensures lays { λ r. ⌜ now (bytes .exit) ≡ laid from (editFront (now (word .entry)) (wordsFrom at (now (line .entry)))) (now (bytes .entry)) ⌝ }
 {
     let operation = match text_words::place_of(word, b"put remove") {
         0 => Operation::Put,
@@ -77,14 +79,15 @@ fn edit(word: &[u8], line: &[u8], at: usize, bytes: &mut [u8]) -> Found
             return Found::Malformed;
         }
     };
-    text_rows::entry(operation, line, at, bytes, 4 * at)
+    text_rows::entry(operation, line, at, bytes, from)
 }
 
 // The field of a kind that the words from a place on say.
 fn field(k: Kind, line: &[u8], at: usize, bytes: &mut [u8], parts: &mut [u32]) -> Found
     requires { ⌜ Lent (now line) at (now bytes) (now parts) ⌝ }
-    ensures { λ r. ⌜ Adds (inParts k) r at (now (line .entry)) (now (bytes .entry)) (now (bytes .exit)) (now (parts .entry)) (now (parts .exit))
-        (kindSaid k (wordsFrom at (now (line .entry)))) ⌝ }
+    ensures finds { λ r. ⌜ Finds r (4 * at) at (now (line .entry)) (kindSaid k (wordsFrom at (now (line .entry)))) ⌝ }
+    ensures lays { λ r. ⌜ buffers (now (bytes .exit)) (now (parts .exit))
+        ≡ laidIn (inParts k) (4 * at) (kindFront k (wordsFrom at (now (line .entry)))) (buffers (now (bytes .entry)) (now (parts .entry))) ⌝ }
 {
     let Word::To(end) = text_words::word_at(line, at) else {
         return Found::Malformed;
@@ -97,7 +100,7 @@ fn field(k: Kind, line: &[u8], at: usize, bytes: &mut [u8], parts: &mut [u32]) -
         Kind::Name => one_word(text_words::hex_octets(word, bytes, from), from, next),
         Kind::Identifier => one_word(text_words::dotted(word, parts, from), from, next),
         Kind::Key => text_rows::entry(Operation::Remove, line, at, bytes, from),
-        Kind::Edit => edit(word, line, next, bytes),
+        Kind::Edit => edit(word, line, next, bytes, from),
     }
 }
 
@@ -132,7 +135,10 @@ pub fn read(
 ) -> Fields
     requires kinds { ⌜ Kinds n kinds ⌝ }
     requires lent { ⌜ Lent (now line) at (now bytes) (now parts) ⌝ }
-    ensures { λ r. ⌜ ReadsFields r (take n kinds) (now (bytes .exit)) (now (parts .exit)) (valuesSaid (take n kinds) (wordsFrom at (now (line .entry)))) ⌝ }
+    ensures reads { λ r. ⌜ ReadsFields r (take n kinds) (now (bytes .exit)) (now (parts .exit))
+        (valuesSaid (take n kinds) (wordsFrom at (now (line .entry)))) ⌝ }
+    ensures lays { λ r. ⌜ buffers (now (bytes .exit)) (now (parts .exit))
+        ≡ fieldsInto (take n kinds) (now (line .entry)) (wordsFrom at (now (line .entry))) (buffers (now (bytes .entry)) (now (parts .entry))) ⌝ }
 {
     let mut slots = no_slots();
     let mut next = at;

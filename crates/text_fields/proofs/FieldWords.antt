@@ -1,15 +1,16 @@
 -- What a word says of a field: nothing, more than its bytes hold, or its bytes. Assumes nothing.
-use mathlib.Core.Path.{_≡_, sym, ap, _∙_}
+use mathlib.Core.Path.{_≡_, refl, sym, ap, _∙_}
 use mathlib.Core.List.{List, [], _∷_}
 use mathlib.Core.Option.{Option, none, some}
-use Prim.Native.Nat.{ℕ, _≤_, _<_}
+use Prim.Native.Nat.{ℕ, _*_, _≤_, _<_}
+use native.Mathlib.Omega.{arith}
 use lib.Dec.{ltb}
 use lib.ListN.{length}
-use borrow.Author.Tests.{le-leb, lt-leb, lt-ltb, le-ltb, ltb-true}
+use borrow.Author.Tests.{le-leb, lt-leb, lt-ltb, le-ltb, ltb-true, ltb-false}
 use Rattle.numbers.proofs.Bools.{split as by}
-use Rattle.numbers.specs.BigEndian.{Width, bound, bytes, bytesOf}
-use Rattle.text_words.specs.Words.{digitsFrom, below32, decimal}
-use Rattle.text_words.proofs.Words.{never}
+use Rattle.numbers.specs.BigEndian.{Width, octet, bound, bytes, bytesOf}
+use Rattle.text_words.specs.Words.{digitsFrom, below32, decimal, hexOctets}
+use Rattle.text_words.proofs.Words.{never, hex-length}
 use Rattle.text_fields.specs.FieldWords.{octetMost, counted, numbered}
 
 -- ---- parts behind their count
@@ -24,6 +25,19 @@ module _ (w : Width) {o : Option (List ℕ)} where
 
     pub counted-some : length x ≤ octetMost → counted w o ≡ some (length x ∷ bytesOf w x)
     counted-some h = rw (e, le-leb (length x) octetMost h)
+
+-- a name has two digits for each octet
+name-long-of : (o : Option (List ℕ)) → ((x : List ℕ) → o ≡ some x → octetMost < length x) → counted octet o ≡ none
+name-long-of none h = refl
+name-long-of (some x) h = counted-over octet {x = x} refl (h x refl)
+
+pub name-long : (w : List ℕ) → 2 * octetMost < length w → counted octet (hexOctets w) ≡ none
+name-long w l = name-long-of (hexOctets w) (λ x e. omega (arith, hex-length w x e (omega arith)))
+
+pub name-short : (w x : List ℕ) → hexOctets w ≡ some x → length x ≤ length w → length w ≤ 2 * octetMost → length x ≤ octetMost
+name-short w x e m l =
+    by (ltb (length w) 2) (λ t. omega (arith, ltb-true (length w) 2 t))
+    (λ f. omega (arith, hex-length w x e (ltb-false (length w) 2 f)))
 
 -- ---- a number
 

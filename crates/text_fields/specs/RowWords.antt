@@ -1,12 +1,11 @@
 -- Fields said in the words of a line, one after the other, in the form of the image; and what the code reads of them. Assumes nothing.
 use mathlib.Core.Path.{_≡_}
 use mathlib.Core.List.{List, [], _∷_, _++_}
-use mathlib.Core.Option.{Option, none, some, bind}
+use mathlib.Core.Option.{Option, none, some, bind, Option·elim}
 use Prim.Native.Nat.{ℕ, suc, _+_, _*_, _≤_}
 use lib.ListN.{length}
-use Rattle.numbers.specs.Laid.{laid}
 use Rattle.rows.specs.Fields.{Field}
-use Rattle.text_words.specs.Words.{longest, wordsFrom, Unfilled}
+use Rattle.text_words.specs.Words.{longest, wordsFrom}
 use Rattle.text_fields.specs.FieldWords.{fieldSaid}
 use Rattle.text_fields.specs.declared.Placed.{Placed}
 
@@ -29,6 +28,12 @@ fieldsSaid [] ws = some (said [] ws)
 fieldsSaid (k ∷ ks) [] = none
 fieldsSaid (k ∷ ks) (w ∷ ws) = bind (fieldSaid k w) (λ b. after b (fieldsSaid ks ws))
 
+-- the bytes of the fields in front of the first word that is missing or malformed; of all fields, where none is
+unfoldable pub fieldsFront : List Field → List (List ℕ) → List ℕ
+fieldsFront [] ws = []
+fieldsFront (k ∷ ks) [] = []
+fieldsFront (k ∷ ks) (w ∷ ws) = Option·elim (fieldSaid k w) [] (λ b. b ++ fieldsFront ks ws)
+
 -- ---- how the code reads them
 
 -- a place in a line that is not too long, and room behind a place of a buffer: an octet of the line makes four bytes at most
@@ -37,16 +42,15 @@ pub record Roomy (line : List ℕ) (at : ℕ) (out : List ℕ) (from : ℕ) : Ty
   pub at-in : at ≤ suc (length line)
   pub room : from + 4 * suc (length line) ≤ length out + 4 * at
 
--- the bytes were laid from `from` on, up to `end`, and nothing else changed; the next word begins at `next`
-pub record Placing (end next from at : ℕ) (line found out : List ℕ) (s : Option Said) : Type 0 where
+-- the bytes that are said end at `end`, of so much room, and the next word begins at `next`
+pub record Placing (end next from at room : ℕ) (line : List ℕ) (s : Option Said) : Type 0 where
   pub of : List ℕ
   pub is : s ≡ some (said of (wordsFrom next line))
-  pub lays : out ≡ laid from of found
   pub ends : end ≡ from + length of
-  pub inside : end ≤ length found
+  pub inside : end ≤ room
   pub next-in : next ≤ suc (length line)
   pub short : end + 4 * at ≤ from + 4 * next
 
-abbrev pub Places : Placed → (from at : ℕ) (line found out : List ℕ) → Option Said → Type 0
-Places (Placed.To end next) from at line found out s = Placing end next from at line found out s
-Places Placed.Malformed from at line found out s = Unfilled from found out s
+abbrev pub Places : Placed → (from at room : ℕ) (line : List ℕ) → Option Said → Type 0
+Places (Placed.To end next) from at room line s = Placing end next from at room line s
+Places Placed.Malformed from at room line s = s ≡ none

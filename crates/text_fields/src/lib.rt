@@ -9,11 +9,12 @@ ghost use mathlib.Core.Path.{_≡_};
 ghost use Prim.Native.Nat.{_+_, _≤_};
 ghost use lib.ListN.{length, take};
 ghost use Rattle.numbers.specs.BigEndian.{octet, quad};
+ghost use Rattle.numbers.specs.Laid.{laid};
 ghost use Rattle.rows.specs.Forms.{fieldOf};
 ghost use Rattle.rows.specs.Rows.{rowFields};
 ghost use Rattle.text_words.specs.Words.{longest, wordsFrom, decimal, hexOctets, dotted, Fills};
 ghost use Rattle.text_fields.specs.FieldWords.{counted, numbered, fieldSaid, wordBytes};
-ghost use Rattle.text_fields.specs.RowWords.{fieldsSaid, Roomy, Places};
+ghost use Rattle.text_fields.specs.RowWords.{fieldsSaid, fieldsFront, Roomy, Places};
 
 // The most that one octet holds.
 const OCTET_MOST: usize = 255;
@@ -25,15 +26,15 @@ fn name(word: &[u8], out: &mut [u8], from: usize) -> Filled
     requires { ⌜ from + wordBytes (now word) ≤ length (now out) ⌝ }
     ensures { λ r. ⌜ Fills r from (wordBytes (now (word .entry))) (now (out .entry)) (now (out .exit)) (counted octet (hexOctets (now (word .entry)))) ⌝ }
 {
+    // two digits an octet
+    if 2 * OCTET_MOST < word.len() {
+        return Filled::Malformed;
+    }
     let first = from + 1;
     let Filled::Upto(end) = text_words::hex_octets(word, out, first) else {
         return Filled::Malformed;
     };
-    let n = end - first;
-    if OCTET_MOST < n {
-        return Filled::Malformed;
-    }
-    out[from] = n as u8;
+    out[from] = (end - first) as u8;
     Filled::Upto(end)
 }
 
@@ -110,8 +111,9 @@ pub enum Placed {
 pub fn fields(t: Table, n: usize, line: &[u8], at: usize, out: &mut [u8], from: usize) -> Placed
     requires fields { ⌜ n ≤ length (rowFields t) ⌝ }
     requires room { ⌜ Roomy (now line) at (now out) from ⌝ }
-    ensures { λ r. ⌜ Places r from at (now (line .entry)) (now (out .entry)) (now (out .exit))
+    ensures places { λ r. ⌜ Places r from at (length (now (out .entry))) (now (line .entry))
         (fieldsSaid (take n (rowFields t)) (wordsFrom at (now (line .entry)))) ⌝ }
+    ensures lays { λ r. ⌜ now (out .exit) ≡ laid from (fieldsFront (take n (rowFields t)) (wordsFrom at (now (line .entry)))) (now (out .entry)) ⌝ }
 {
     let mut i = 0;
     let mut a = at;

@@ -1,7 +1,7 @@
 -- A table's row or key said in the words of a line: the table's word, and the fields in order; and what the code reads of it. Assumes nothing.
 use mathlib.Core.Path.{_≡_}
 use mathlib.Core.List.{List, [], _∷_, _++_}
-use mathlib.Core.Option.{Option, none, some, bind}
+use mathlib.Core.Option.{Option, none, some, bind, Option·elim}
 use Prim.Native.Nat.{ℕ, suc, _+_, _*_, _≤_}
 use lib.ListN.{length, take}
 use Rattle.rows.specs.declared.Operation.{Operation}
@@ -9,9 +9,8 @@ use Rattle.rows.specs.declared.Table.{Table}
 use Rattle.rows.specs.Fields.{Field}
 use Rattle.rows.specs.Rows.{rowFields}
 use Rattle.edit_rules.specs.Edits.{fieldsOf}
-use Rattle.numbers.specs.Laid.{laid}
-use Rattle.text_words.specs.Words.{wordsFrom, Unfilled}
-use Rattle.text_fields.specs.RowWords.{Said, fieldsSaid}
+use Rattle.text_words.specs.Words.{wordsFrom}
+use Rattle.text_fields.specs.RowWords.{Said, fieldsSaid, fieldsFront}
 use Rattle.text_rows.specs.TableWords.{tableNamed}
 use Rattle.text_rows.specs.declared.Slot.{Slot}
 use Rattle.text_rows.specs.declared.Found.{Found}
@@ -31,6 +30,11 @@ unfoldable pub entrySaid : Operation → List (List ℕ) → Option Entry
 entrySaid o [] = none
 entrySaid o (w ∷ ws) = bind (tableNamed w) (λ t. entryOf t (fieldsSaid (fieldsOf o t) ws))
 
+-- the bytes of its fields in front of the first word that is missing or malformed; none, where no table is named
+unfoldable pub entryFront : Operation → List (List ℕ) → List ℕ
+entryFront o [] = []
+entryFront o (w ∷ ws) = Option·elim (tableNamed w) [] (λ t. fieldsFront (fieldsOf o t) ws)
+
 -- ---- how the code reads it
 
 -- so many fields of the table are those of an operation
@@ -38,18 +42,17 @@ pub record Counts (n : ℕ) (o : Operation) (t : Table) : Type 0 where
   pub fields-are : take n (rowFields t) ≡ fieldsOf o t
   pub inside : n ≤ length (rowFields t)
 
--- the bytes were laid from `from` on, as the slot says, and nothing else changed; the next word begins at `next`
-pub record Entering (s : Slot) (next : ℕ) (o : Operation) (from at : ℕ) (line found out : List ℕ) (e : Option Entry) : Type 0 where
+-- the slot says where the bytes lie that are said, from `from` on and inside so much room; the next word begins at `next`
+pub record Entering (s : Slot) (next : ℕ) (o : Operation) (from at room : ℕ) (line : List ℕ) (e : Option Entry) : Type 0 where
   pub of : List ℕ
   pub is : e ≡ some (record { table = s .table; bytes = of; rest = wordsFrom next line })
   pub operation-is : s .operation ≡ o
   pub begins : s .from ≡ from
-  pub lays : out ≡ laid from of found
   pub ends : s .end ≡ from + length of
-  pub inside : s .end ≤ length found
+  pub inside : s .end ≤ room
   pub next-in : next ≤ suc (length line)
   pub short : s .end + 4 * at ≤ from + 4 * next
 
-abbrev pub Enters : Found → (o : Operation) (from at : ℕ) (line found out : List ℕ) → Option Entry → Type 0
-Enters (Found.At s next) o from at line found out e = Entering s next o from at line found out e
-Enters Found.Malformed o from at line found out e = Unfilled from found out e
+abbrev pub Enters : Found → (o : Operation) (from at room : ℕ) (line : List ℕ) → Option Entry → Type 0
+Enters (Found.At s next) o from at room line e = Entering s next o from at room line e
+Enters Found.Malformed o from at room line e = e ≡ none

@@ -8,13 +8,14 @@ ghost use mathlib.Core.Path.{_≡_};
 ghost use mathlib.Core.Option.{none};
 ghost use Prim.Native.Nat.{_+_, _≤_};
 ghost use lib.ListN.{length, take, drop};
+ghost use Rattle.numbers.specs.Laid.{laid};
 ghost use Rattle.rows.specs.Fields.{fault, faults, value, values};
 ghost use Rattle.rows.specs.Forms.{fieldOf};
 ghost use Rattle.rows.specs.Rows.{keyFields, rowFields};
 ghost use Rattle.text_words.specs.Words.{wordsFrom};
 ghost use Rattle.text_values.specs.Texts.{Puts};
 ghost use Rattle.text_fields.specs.RowWords.{Roomy};
-ghost use Rattle.text_rows.specs.EntryWords.{Counts, entrySaid, Enters};
+ghost use Rattle.text_rows.specs.EntryWords.{Counts, entrySaid, entryFront, Enters};
 ghost use Rattle.text_rows.specs.FieldText.{fieldText, FieldIn};
 ghost use Rattle.text_rows.specs.RowText.{fieldsText, keyText, Fields};
 ghost use Rattle.text_rows.specs.TableWords.{tableWord};
@@ -48,7 +49,8 @@ fn field_count(o: Operation, t: Table) -> usize
 // The row or the key, as the operation has it, that the words from the one that begins at `at` on say, its bytes in `out` from `from` on.
 pub fn entry(o: Operation, line: &[u8], at: usize, out: &mut [u8], from: usize) -> Found
     requires { ⌜ Roomy (now line) at (now out) from ⌝ }
-    ensures { λ r. ⌜ Enters r o from at (now (line .entry)) (now (out .entry)) (now (out .exit)) (entrySaid o (wordsFrom at (now (line .entry)))) ⌝ }
+    ensures enters { λ r. ⌜ Enters r o from at (length (now (out .entry))) (now (line .entry)) (entrySaid o (wordsFrom at (now (line .entry)))) ⌝ }
+    ensures lays { λ r. ⌜ now (out .exit) ≡ laid from (entryFront o (wordsFrom at (now (line .entry)))) (now (out .entry)) ⌝ }
 {
     let Word::To(end) = text_words::word_at(line, at) else {
         return Found::Malformed;

@@ -4,13 +4,9 @@ use mathlib.Core.List.{List, _++_}
 use Prim.Native.Nat.{ℕ, _+_, _-_, _≤_}
 use native.Mathlib.Omega.{arith}
 use lib.ListN.{length, take, drop}
-use lib.Seq.{length-take-le, take-take, take-at, drop-at}
+use lib.Seq.{length-take-le, take-at, drop-at}
 use Rattle.numbers.specs.Laid.{laid}
 use Rattle.text_words.specs.Words.{between}
-
--- what is kept of a longer front is kept of a shorter one
-pub kept-less : (m n : ℕ) (a b : List ℕ) → m ≤ n → take n a ≡ take n b → take m a ≡ take m b
-kept-less m n a b h e = sym (take-take m n a h) ∙ ap (take m) e ∙ take-take m n b h
 
 pub laid-kept : (from : ℕ) (b w : List ℕ) → from ≤ length w → take from (laid from b w) ≡ take from w
 laid-kept from b w h = take-at (take from w) (b ++ drop (from + length b) w) from (length-take-le from w h)

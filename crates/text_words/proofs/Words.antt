@@ -17,14 +17,17 @@ use Rattle.numbers.specs.Laid.{laid}
 use Rattle.numbers.specs.Order.{same}
 use Rattle.numbers.proofs.Laid.{laid-nil, length-laid, laid-laid, laid-set}
 use Rattle.numbers.proofs.Bools.{split as by, clash}
+use Rattle.numbers.proofs.Orders.{same-true}
 use Rattle.rows.specs.Fields.{within}
 use Rattle.rows.proofs.Sound.{within-most}
 use Rattle.rows.proofs.Steps.{within-low, within-high, within-yes}
-use Rattle.text_words.proofs.Kept.{laid-kept}
 use Rattle.text_words.specs.declared.Number.{Number}
 use Rattle.text_words.specs.declared.Number.the-variants.{Of, Bad}
-use Rattle.text_words.specs.Words.{between, longer, split, run, digitsFrom, below32, decimal, numberOf, also, dash, hexDigit, hexPair, hexPairs}
+use Rattle.text_words.specs.Words.{between, longer, split, run, digitsFrom, below32, decimal, numberOf, also, isSaid, dash, hexDigit, hexPair, hexPairs}
 use Rattle.text_words.specs.Words.{hexOctets, decimals, dotted, Filling, Unfilled}
+
+pub never : {P A : Type 0} {x : A} → none ≡ some x → P
+never {P} {A} {x} e = let z : _≡_ {A = ℕ} 0 1 = cc in absurd (omega arith)
 
 -- ---- how far the first mark stands
 
@@ -192,13 +195,12 @@ reads-start said found from h = record { done = []; makes = behind-nil said; lay
 
 module _ {said : Option (List ℕ)} {found out : List ℕ} {from n : ℕ} {left : Option (List ℕ)} (r : Reads said found out from n left) where
   -- nothing is said, whatever was read
-  pub reads-none : left ≡ none → Unfilled from found out said
+  pub reads-none : left ≡ none → said ≡ none
   unfolding behind
-  reads-none e =
-      record { is = r .makes ∙ rw e; kept = ap (take from) (r .lays) ∙ laid-kept from (r .done) found (omega (arith, r .ends, r .inside)) }
+  reads-none e = r .makes ∙ rw e
 
   module _ (part : Option ℕ) (rest : Option (List ℕ)) (e : left ≡ also part rest) where
-    pub reads-bad : part ≡ none → Unfilled from found out said
+    pub reads-bad : part ≡ none → said ≡ none
     reads-bad q = reads-none (e ∙ ap (λ u. also u rest) q)
 
     -- the next part says x
@@ -229,8 +231,8 @@ module _ {said : Option (List ℕ)} {found out : List ℕ} {from n : ℕ} {left 
   }
 
 -- nothing was written, and nothing is said, or the empty list
-pub unsaid : {A : Type 0} (from : ℕ) (found : List ℕ) {said : Option A} → said ≡ none → Unfilled from found found said
-unsaid from found e = record { is = e; kept = refl }
+pub unsaid : {A : Type 0} (found : List ℕ) {said : Option A} → said ≡ none → Unfilled found found said
+unsaid found e = record { is = e; kept = refl }
 
 pub empty-said : (from most : ℕ) (found : List ℕ) {said : Option (List ℕ)} → said ≡ some [] → from ≤ length found
     → Filling from from most found found said
@@ -266,12 +268,34 @@ module _ (w : List ℕ) (i : ℕ) where
       let m : length w ≤ suc i = omega arith in
       rw (drop-cons w i 0 l, drop-of-length-le w m)
 
-  pub pairs-next : i + 1 < length w → hexPairs (drop i w) ≡ also (hexPair (hexDigit (getD w i 0)) (hexDigit (getD w (i + 1) 0))) (hexPairs (drop (i + 1 + 1) w))
+  pub pairs-next : i + 1 < length w → hexPairs (drop i w) ≡ also (hexPair (hexDigit (getD w i 0)) (hexDigit (getD w (i + 1) 0))) (hexPairs (drop (i + 2) w))
   unfolding hexPairs
   pairs-next h =
       let l : i < length w = omega arith in
       let m : suc i < length w = omega arith in
-      rw (drop-cons w i 0 l, drop-cons w (suc i) 0 m, add-one (i + 1), add-one i)
+      let q : i + 2 ≡ suc (suc i) = omega arith in
+      rw (drop-cons w i 0 l, drop-cons w (suc i) 0 m, q, add-one i)
+
+alsos-length : (n : ℕ) (part : Option ℕ) (rest : Option (List ℕ)) (x : List ℕ) → ((xs : List ℕ) → rest ≡ some xs → n ≡ 2 * length xs)
+    → also part rest ≡ some x → n + 2 ≡ 2 * length x
+alsos-length n none rest x h e = never e
+alsos-length n (some y) none x h e = never e
+alsos-length n (some y) (some ys) x h e = let q : y ∷ ys ≡ x = cc in omega (arith, h ys refl, ap length q)
+
+pairs-length : (w x : List ℕ) → hexPairs w ≡ some x → length w ≡ 2 * length x
+unfolding hexPairs
+pairs-length [] x e = let q : [] ≡ x = cc in omega (arith, ap length q)
+pairs-length (a ∷ []) x e = never e
+pairs-length (a ∷ b ∷ cs) x e =
+    omega (arith, alsos-length (length cs) (hexPair (hexDigit a) (hexDigit b)) (hexPairs cs) x (λ xs q. pairs-length cs xs q) e)
+
+-- two digits an octet, but for `-`
+pub hex-length : (w x : List ℕ) → hexOctets w ≡ some x → 2 ≤ length w → length w ≡ 2 * length x
+unfolding hexOctets
+hex-length [] x e h = never e
+hex-length (c ∷ cs) x e h =
+    by (same (c ∷ cs) dash) (λ t. absurd (omega (arith, ap length (same-true (c ∷ cs) dash t))))
+    (λ f. pairs-length (c ∷ cs) x (rw f at e))
 
 -- ---- an identifier
 
@@ -337,5 +361,17 @@ number-is x e q = sym q ∙ ap numberOf e
 pub number-bad : {r : Number} {o : Option ℕ} → r ≡ Bad → numberOf r ≡ o → o ≡ none
 number-bad e q = sym q ∙ ap numberOf e
 
-pub never : {P A : Type 0} {x : A} → none ≡ some x → P
-never {P} {A} {x} e = let z : _≡_ {A = ℕ} 0 1 = cc in absurd (omega arith)
+-- what was judged to say something says it, and what was not says nothing; a list says something where its rest does behind a part that does
+pub said-none : {A : Type 0} (o : Option A) → isSaid o ≡ false → o ≡ none
+said-none none e = refl
+said-none (some x) e = clash refl e
+
+pub said-not : {A P : Type 0} {o : Option A} → isSaid o ≡ true → o ≡ none → P
+said-not t n = clash t (ap isSaid n)
+
+pub said-also : {part : Option ℕ} {x : ℕ} (rest : Option (List ℕ)) → part ≡ some x → isSaid (also part rest) ≡ isSaid rest
+said-also none e = rw e
+said-also (some xs) e = rw e
+
+pub also-none : {part : Option ℕ} (rest : Option (List ℕ)) → part ≡ none → also part rest ≡ none
+also-none rest e = rw e

@@ -1,7 +1,7 @@
 -- The words of a line, and what a word may say: a number, a name in hex, an identifier (document 01, the program `tryreq`).
 -- Octets are ASCII: 32 space, 45 `-`, 46 `.`, 48 to 57 the digits. Assumes nothing.
 use mathlib.Core.Path.{_≡_}
-use mathlib.Core.Bool.{cond}
+use mathlib.Core.Bool.{Bool, true, false, cond}
 use mathlib.Core.List.{List, [], _∷_}
 use mathlib.Core.Option.{Option, none, some}
 use Prim.Native.Nat.{ℕ, suc, _+_, _-_, _*_, _≤_}
@@ -90,6 +90,11 @@ also none xs = none
 also (some x) none = none
 also (some x) (some xs) = some (x ∷ xs)
 
+-- whether something is said
+abbrev pub isSaid : {A : Type 0} → Option A → Bool
+isSaid none = false
+isSaid (some x) = true
+
 -- `-` is the empty name and the empty identifier
 abbrev pub dash : List ℕ
 dash = 45 ∷ []
@@ -134,11 +139,11 @@ pub record Filling (n from most : ℕ) (found out : List ℕ) (said : Option (Li
   pub inside : n ≤ length found
   pub short : n ≤ from + most
 
--- nothing is said, and the first `from` stay
-pub record Unfilled {A : Type 0} (from : ℕ) (found out : List ℕ) (said : Option A) : Type 0 where
+-- nothing is said, and nothing changed
+pub record Unfilled {A : Type 0} (found out : List ℕ) (said : Option A) : Type 0 where
   pub is : said ≡ none
-  pub kept : take from out ≡ take from found
+  pub kept : out ≡ found
 
 abbrev pub Fills : Filled → (from most : ℕ) (found out : List ℕ) → Option (List ℕ) → Type 0
 Fills (Upto n) from most found out said = Filling n from most found out said
-Fills Malformed from most found out said = Unfilled from found out said
+Fills Malformed from most found out said = Unfilled found out said

@@ -2,8 +2,8 @@
 ghost use mathlib.Core.Path.{_≡_};
 ghost use Prim.Native.Nat.{_+_, _≤_};
 ghost use lib.ListN.{length};
-ghost use Rattle.text_words.specs.Words.{Ends, words, wordAt, place, hexDigit, hexPair, hexOctets, numberOf, Fills, decimal as Words·decimal};
-ghost use Rattle.text_words.specs.Words.{dotted as Words·dotted};
+ghost use Rattle.text_words.specs.Words.{Ends, split, words, wordAt, place, hexDigit, hexPair, hexPairs, hexOctets, numberOf, isSaid};
+ghost use Rattle.text_words.specs.Words.{Fills, decimals, decimal as Words·decimal, dotted as Words·dotted};
 
 // The longest line, in octets, its newline not counted.
 pub const LONGEST_LINE: usize = 2048;
@@ -116,7 +116,25 @@ fn hex_pair(a: u8, b: u8) -> Number
     Number::Of(h * 16 + l)
 }
 
-// The name that a word says in hex, into `out` from `from` on. An octet takes two digits.
+// Whether a word is pairs of hex digits.
+fn are_pairs(word: &[u8]) -> bool
+    ensures { λ r. ⌜ r ≡ isSaid (hexPairs (now (word .entry))) ⌝ }
+{
+    let mut i = 0;
+    while i < word.len() {
+        let j = i + 1;
+        if j == word.len() {
+            return false;
+        }
+        let Number::Of(_) = hex_pair(word[i], word[j]) else {
+            return false;
+        };
+        i += 2;
+    }
+    true
+}
+
+// The name that a word says in hex, into `out` from `from` on. An octet takes two digits. A word is judged before anything is written.
 pub fn hex_octets(word: &[u8], out: &mut [u8], from: usize) -> Filled
     requires { ⌜ from + length (now word) ≤ length (now out) ⌝ }
     ensures { λ r. ⌜ Fills r from (length (now (word .entry))) (now (out .entry)) (now (out .exit)) (hexOctets (now (word .entry))) ⌝ }
@@ -127,21 +145,37 @@ pub fn hex_octets(word: &[u8], out: &mut [u8], from: usize) -> Filled
     if octets::are_same(word, b"-") {
         return Filled::Upto(from);
     }
+    if !are_pairs(word) {
+        return Filled::Malformed;
+    }
     let mut i = 0;
     let mut n = from;
     while i < word.len() {
-        let j = i + 1;
-        if j == word.len() {
-            return Filled::Malformed;
-        }
-        let Number::Of(x) = hex_pair(word[i], word[j]) else {
+        let Number::Of(x) = hex_pair(word[i], word[i + 1]) else {
             return Filled::Malformed;
         };
         out[n] = x as u8;
         n += 1;
-        i = j + 1;
+        i += 2;
     }
     Filled::Upto(n)
+}
+
+// Whether a word is numbers with one dot between two of them.
+fn are_numbers(word: &[u8]) -> bool
+    ensures { λ r. ⌜ r ≡ isSaid (decimals (split 46 (now (word .entry)))) ⌝ }
+{
+    let mut at = 0;
+    loop {
+        let end = end_of(word, at, b'.');
+        let Number::Of(_) = decimal(&word[at..end]) else {
+            return false;
+        };
+        at = end + 1;
+        if at > word.len() {
+            return true;
+        }
+    }
 }
 
 // The identifier that a word says, into `out` from `from` on. But for the last, a part takes a digit and a dot at least.
@@ -151,6 +185,9 @@ pub fn dotted(word: &[u8], out: &mut [u32], from: usize) -> Filled
 {
     if octets::are_same(word, b"-") {
         return Filled::Upto(from);
+    }
+    if !are_numbers(word) {
+        return Filled::Malformed;
     }
     let mut at = 0;
     let mut n = from;

@@ -10,8 +10,10 @@ use Rattle.text_words.specs.Words.{longest, wordsFrom}
 use Rattle.text_words.proofs.WordsFrom.{WordAt, word-from}
 use Rattle.line_fields.specs.Kinds.{valuesSaid}
 use Rattle.line_fields.specs.Slots.{Kinds, ReadsFields}
+use Rattle.line_fields.specs.Buffers.{buffers}
 use Rattle.call_words.specs.Calls.{kindsOf}
-use Rattle.call_words.proofs.Calls.{kinds-few, long-line, reads-nothing, line-nothing, line-reads}
+use Rattle.call_words.specs.Reading.{lineInto}
+use Rattle.call_words.proofs.Calls.{kinds-few, long-line, long-into, reads-nothing, line-into, line-nothing, line-reads}
 use Rattle.call_words.proofs.read_call.Statement.{statement}
 use Rattle.call_words.proofs.read_call.Tie as tie
 
@@ -22,6 +24,10 @@ start c = c .before .before .before .before .before
 first : (c : tie.After-end-of) → WordAt 0 (start c .args .line .now) (c .end-of .result)
 first c = word-from _ _ _ (omega arith) (c .end-of .ensures)
 
+-- the kinds of its fields
+kinds : (c : tie.After-field-count) → take (c .field-count .result) (c .before .kinds-of .result) ≡ kindsOf (c .before .before .verb-named .result)
+kinds c = ap (λ k. take k (c .before .kinds-of .result)) (c .field-count .ensures) ∙ c .before .kinds-of .ensures .first-are
+
 -- what was read behind it
 read : (c : tie.After-read) → let n = c .before .before .before in
     let v = n .before .before in
@@ -30,10 +36,24 @@ read : (c : tie.After-read) → let n = c .before .before .before in
     (valuesSaid (kindsOf (v .verb-named .result)) (wordsFrom (e .end-of .result + 1) (start e .args .line .now)))
 read c =
     let n = c .before .before .before in
-    rw (ap (λ k. take k (n .before .kinds-of .result)) (n .field-count .ensures) ∙ n .before .kinds-of .ensures .first-are) at (c .read .ensures)
+    rw (kinds n) at (c .read .ensures .0)
+
+-- and what is left of it
+left : (c : tie.After-read) → let e = c .before .before .before .before .before .before .before in
+    let s = start e .args in
+    buffers (c .read .last .1 .1 .1 .1 .0) (c .read .last .1 .1 .1 .1 .1 .0) ≡ lineInto (s .line .now) (buffers (s .bytes .now) (s .parts .now))
+left c =
+    let n = c .before .before .before in
+    let v = n .before .before in
+    let e = v .before .before in
+    let s = start e .args in
+    (rw (kinds n) at (c .read .ensures .1))
+    ∙ line-into (s .line .now) (e .before .if1 .left) (first e) (v .verb-named .ensures) (buffers (s .bytes .now) (s .parts .now))
 
 returns : tie.Need-returns
-returns c = reads-nothing _ _ (long-line _ (omega (arith, c .before .if1 .taken)))
+returns c = let s = c .before .before .before .before .before .args in
+    let h : longest < length (s .line .now) = omega (arith, c .before .if1 .taken) in
+    (reads-nothing _ _ (long-line _ h), long-into (s .line .now) (buffers (s .bytes .now) (s .parts .now)) h)
 
 read-requires : tie.Need-read-requires
 read-requires c κs = let n = c .before .before in
@@ -56,13 +76,14 @@ returns-2 : tie.Need-returns-2
 returns-2 c = let r = c .before .before .before .before .before .before .before in
     let v = r .before .before .before .before .before in
     let e = v .before .before in
-    reads-nothing _ _ (line-nothing _ (e .before .if1 .left) (first e) (v .verb-named .ensures) (read r .not-whole (not-true _ (c .if2 .taken))))
+    let n = line-nothing _ (e .before .if1 .left) (first e) (v .verb-named .ensures) (read r .not-whole (not-true _ (c .if2 .taken))) in
+    (reads-nothing _ _ n, left r)
 
 returns-3 : tie.Need-returns-3
 returns-3 c = let r = c .before .before .before .before .before .before .before in
     let v = r .before .before .before .before .before in
     let e = v .before .before in
-    line-reads _ (e .before .if1 .left) (first e) (v .verb-named .ensures) (read r .whole-is (not-false _ (c .if2 .left)))
+    (line-reads _ (e .before .if1 .left) (first e) (v .verb-named .ensures) (read r .whole-is (not-false _ (c .if2 .left))), left r)
 
 pub read-call-spec : {M : Type 1} → statement M
 read-call-spec =

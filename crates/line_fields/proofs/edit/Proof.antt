@@ -4,11 +4,11 @@ use mathlib.Core.Option.{some}
 use mathlib.Core.Path.{_≡_, sym, _∙_}
 use native.Mathlib.Omega.{arith}
 use borrow.Author.Needs.{needs}
-use Rattle.text_words.specs.Words.{split, place}
+use Rattle.text_words.specs.Words.{split, place, wordsFrom}
 use Rattle.text_words.proofs.Named.{wordsOf, named-at, named-none}
-use Rattle.text_words.proofs.Words.{unsaid}
+use Rattle.text_rows.proofs.EntryWords.{unlaid}
 use Rattle.line_fields.specs.Kinds.{operationWord, operations, operationNamed}
-use Rattle.line_fields.proofs.FieldSlots.{entry-finds, edit-named, edit-other}
+use Rattle.line_fields.proofs.FieldSlots.{entry-finds, edit-named, edit-front, edit-other, other-front}
 use Rattle.line_fields.proofs.edit.Statement.{statement}
 use Rattle.line_fields.proofs.edit.Tie as tie
 
@@ -27,14 +27,21 @@ named c =
 
 returns : tie.Need-returns
 unfolding operationNamed
-returns c = unsaid _ _ (edit-other _ _ (named-none operationWord _ operations (c .before .place-of .result) (found (c .before)) (omega arith)))
+returns c = let s = c .before .before .before .before .before .before .args in
+    let e = named-none operationWord _ operations (c .before .place-of .result) (found (c .before)) (omega arith) in
+    (edit-other _ _ e, unlaid (s .from) (s .bytes .now) (other-front (s .word .now) (wordsFrom (s .at) (s .line .now)) e))
 
 returns-2 : tie.Need-returns-2
 returns-2 c = let e = c .before .before in
     let m = e .before .before in
-    rw (edit-named _ _ (named m)) (entry-finds (m .match .operation) (e .entry .result) _ _ _ _ (e .entry .ensures))
+    let s = m .before .before .before .before .before .before .args in
+    let ws = wordsFrom (s .at) (s .line .now) in (
+      rw (edit-named (s .word .now) ws (named m))
+          (entry-finds (m .match .operation) (e .entry .result) (s .from) (s .at) _ (s .line .now) (e .entry .ensures .0)),
+      rw (edit-front (s .word .now) ws (named m)) (e .entry .ensures .1),
+    )
 
 pub edit-spec : {M : Type 1} → statement M
 edit-spec =
     tie.close
-    (tie.spec (λ c. search needs) (λ c κs. search needs) returns (λ c. search needs) (λ c κs. search needs) (λ c. search needs) returns-2)
+    (tie.spec (λ c. search needs) (λ c κs. search needs) returns (λ c κs. search needs) (λ c. search needs) returns-2)

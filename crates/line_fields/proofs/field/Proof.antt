@@ -1,14 +1,18 @@
 -- `line_fields::field` meets its contract: in each arm the kind is known, and so are its buffer and what it says. Assumes nothing.
 use mathlib.Core.Bool.{true, false}
-use mathlib.Core.Path.{_≡_, refl, sym, _∙_}
+use mathlib.Core.List.{List}
+use mathlib.Core.Path.{_≡_, sym, ap, _∙_}
+use Prim.Native.Nat.{ℕ, _*_}
 use native.Mathlib.Omega.{arith}
+use lib.ListN.{length}
 use borrow.Author.Needs.{needs}
 use Rattle.rows.specs.declared.Operation.the-variants.{Remove}
-use Rattle.text_words.specs.Words.{hexOctets, dotted}
-use Rattle.text_words.proofs.Words.{unsaid}
+use Rattle.text_words.specs.Words.{between, hexOctets, dotted}
 use Rattle.text_words.proofs.WordsFrom.{WordAt, word-missing, word-found}
 use Rattle.line_fields.specs.Kinds.{number, kindSaid}
-use Rattle.line_fields.proofs.FieldSlots.{bytes-roomy, none-said, word-room, lent-behind, word-finds, entry-finds, edit-finds}
+use Rattle.line_fields.specs.Buffers.{buffers, kindFront}
+use Rattle.line_fields.proofs.FieldSlots.{bytes-roomy, none-said, none-lays, word-room, behind-roomy, word-finds, word-lays}
+use Rattle.line_fields.proofs.FieldSlots.{entry-finds, edit-finds, edit-lays}
 use Rattle.line_fields.proofs.field.Statement.{statement}
 use Rattle.line_fields.proofs.field.Tie as tie
 
@@ -20,13 +24,9 @@ found : (c : tie.After-known-told) → WordAt (start c .args .at) (start c .args
 found c = word-found _ _ (sym (c .before .before .before .word-at .ensures) ∙ c .before .end .given .1)
 
 returns : tie.Need-returns
-returns c = record {
-  finds =
-      unsaid _ _
-      (none-said (c .before .before .before .before .before .before .args .k) _ _
-      (word-missing _ _ (sym (c .before .before .word-at .ensures) ∙ c .enum-told .given .1)));
-  other = refl;
-}
+returns c = let s = c .before .before .before .before .before .before .args in
+    let e = word-missing _ _ (sym (c .before .before .word-at .ensures) ∙ c .enum-told .given .1) in
+    (none-said (s .k) (s .at) (s .line .now) e, none-lays (s .k) (s .at) (s .line .now) (s .bytes .now) (s .parts .now) e)
 
 sub-word : tie.Need-sub-word
 sub-word c = found c .forward
@@ -53,39 +53,61 @@ entry-requires : tie.Need-entry-requires
 entry-requires c κs = bytes-roomy (start (c .before .before .before .before) .pre)
 
 edit-requires : tie.Need-edit-requires
-edit-requires c κs = let k = c .before .before .before .before in bytes-roomy (lent-behind (found k) (start k .pre))
+edit-requires c κs = let k = c .before .before .before .before in behind-roomy (found k) (start k .pre)
+
+-- the word
+abbrev word : tie.After-known-told → List ℕ
+word k = between (start k .args .at) (k .before .end .given .0 .0) (start k .args .line .now)
 
 returns-2 : tie.Need-returns-2
-unfolding kindSaid
+unfolding kindSaid kindFront
 returns-2 c = let f = c .before .before .before in
     let k = f .before .before .before .before .before in
-    rw (f .before .before .enum-told2 .given .1, c .one-word .ensures)
-    (record { finds = word-finds (found k) number (f .number .result) _ _ (f .number .ensures) (omega arith); other = refl })
+    let s = start k .args in
+    rw (f .before .before .enum-told2 .given .1, c .one-word .ensures) (
+      word-finds (found k) number (f .number .result) _ _ (f .number .ensures) (omega arith),
+      ap (λ u. buffers (s .bytes .now) u) (word-lays (found k) number (f .number .result) 1 (s .parts .now) _ (f .number .ensures)),
+    )
 
 returns-3 : tie.Need-returns-3
-unfolding kindSaid
+unfolding kindSaid kindFront
 returns-3 c = let f = c .before .before .before in
     let k = f .before .before .before .before .before in
-    rw (f .before .before .enum-told3 .given .1, c .one-word2 .ensures)
-    (record { finds = word-finds (found k) hexOctets (f .hex-octets .result) _ _ (f .hex-octets .ensures) (omega arith); other = refl })
+    let s = start k .args in
+    rw (f .before .before .enum-told3 .given .1, c .one-word2 .ensures) (
+      word-finds (found k) hexOctets (f .hex-octets .result) _ _ (f .hex-octets .ensures) (omega arith),
+      ap (λ u. buffers u (s .parts .now))
+          (word-lays (found k) hexOctets (f .hex-octets .result) (length (word k)) (s .bytes .now) _ (f .hex-octets .ensures)),
+    )
 
 returns-4 : tie.Need-returns-4
-unfolding kindSaid
+unfolding kindSaid kindFront
 returns-4 c = let f = c .before .before .before in
     let k = f .before .before .before .before .before in
-    rw (f .before .before .enum-told4 .given .1, c .one-word3 .ensures)
-    (record { finds = word-finds (found k) dotted (f .dotted .result) _ _ (f .dotted .ensures) (omega arith); other = refl })
+    let s = start k .args in
+    rw (f .before .before .enum-told4 .given .1, c .one-word3 .ensures) (
+      word-finds (found k) dotted (f .dotted .result) _ _ (f .dotted .ensures) (omega arith),
+      ap (λ u. buffers (s .bytes .now) u) (word-lays (found k) dotted (f .dotted .result) (length (word k)) (s .parts .now) _ (f .dotted .ensures)),
+    )
 
 returns-5 : tie.Need-returns-5
-unfolding kindSaid
+unfolding kindSaid kindFront
 returns-5 c = let f = c .before .before in
-    rw (f .before .before .enum-told5 .given .1) (record { finds = entry-finds Remove (f .entry .result) _ _ _ _ (f .entry .ensures); other = refl })
+    let s = start (f .before .before .before .before .before) .args in
+    rw (f .before .before .enum-told5 .given .1) (
+      entry-finds Remove (f .entry .result) _ _ _ _ (f .entry .ensures .0),
+      ap (λ u. buffers u (s .parts .now)) (f .entry .ensures .1),
+    )
 
 returns-6 : tie.Need-returns-6
 unfolding kindSaid
 returns-6 c = let f = c .before .before in
     let k = f .before .before .before .before .before in
-    rw (f .before .before .enum-told6 .given .1) (record { finds = edit-finds (found k) (f .edit .result) _ _ (f .edit .ensures); other = refl })
+    let s = start k .args in
+    rw (f .before .before .enum-told6 .given .1) (
+      edit-finds (found k) (f .edit .result) _ (f .edit .ensures .0),
+      ap (λ u. buffers u (s .parts .now)) (edit-lays (found k) (4 * s .at) (s .bytes .now) (f .edit .ensures .1)),
+    )
 
 pub field-spec : {M : Type 1} → statement M
 field-spec =

@@ -10,7 +10,7 @@ use Rattle.line_fields.proofs.number.Statement.{statement}
 use Rattle.line_fields.proofs.number.Tie as tie
 
 returns : tie.Need-returns
-returns c = unsaid _ _ (ap (Option·map (λ n. n ∷ [])) (number-bad (c .enum-told .given .1) (c .before .before .decimal .ensures)))
+returns c = unsaid _ (ap (Option·map (λ n. n ∷ [])) (number-bad (c .enum-told .given .1) (c .before .before .decimal .ensures)))
 
 returns-2 : tie.Need-returns-2
 returns-2 c = let x = c .before .x .given .0 .0 in

@@ -21,7 +21,7 @@ else1 c = c .before .before .before .before
 -- what was read of the line
 read : (c : tie.After-read) → ReadsFields (c .read .result) requestKinds (c .read .last .1 .1 .1 .1 .0) (c .read .last .1 .1 .1 .1 .1 .0)
     (valuesSaid requestKinds (wordsFrom 0 (else1 c .before .before .before .args .line .now)))
-read c = rw (c .before .before .before .request-kinds .ensures .first-are) at (c .read .ensures)
+read c = rw (c .before .before .before .request-kinds .ensures .first-are) at (c .read .ensures .0)
 
 returns : tie.Need-returns
 returns c = let h : longest < length (c .before .before .before .args .line .now) = omega arith in answer-long _ _ h

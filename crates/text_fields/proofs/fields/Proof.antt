@@ -9,25 +9,24 @@ use borrow.Author.Needs.{needs}
 use Rattle.rows.specs.Rows.{rowFields}
 use Rattle.rows.specs.Forms.{fieldIn}
 use Rattle.rows.proofs.Forms.{field-here, fields-gone}
-use Rattle.text_words.specs.Words.{between, wordsFrom, Fills}
+use Rattle.text_words.specs.Words.{between, Fills, Unfilled}
 use Rattle.text_words.proofs.WordsFrom.{WordAt, word-missing, word-found, word-length}
 use Rattle.text_fields.specs.FieldWords.{fieldSaid, wordBytes}
-use Rattle.text_fields.specs.RowWords.{fieldsSaid}
-use Rattle.text_fields.proofs.RowWords.{OnWay, way-start, way-missing, word-room, way-bad, way-next, way-end}
+use Rattle.text_fields.proofs.RowWords.{OnWay, way-start, missing-none, missing-lays, word-room, bad-none, bad-lays, way-next, end-places, end-lays}
 use Rattle.text_fields.proofs.fields.Statement.{statement}
 use Rattle.text_fields.proofs.fields.Tie as tie
 
 abbrev Inv-loop : tie.InvT-loop
 Inv-loop t n line at out₀ from i₀ a₀ k₀ out i a k =
     (i ≤ n) × (length out ≡ length out₀)
-    × OnWay (fieldsSaid (take n (rowFields t)) (wordsFrom at line)) line out₀ out from at (drop i (take n (rowFields t))) a k
+    × OnWay (take n (rowFields t)) line out₀ out from at (drop i (take n (rowFields t))) a k
 
 abbrev μ-loop : tie.MeasureT-loop
 μ-loop t n line at out₀ from i₀ a₀ k₀ out i a k = n - i
 
 -- in a turn the field at i is the next one
 way : (c : tie.In-loop Inv-loop μ-loop) → let l = c .before .loop in let s = c .before .before .before .before .args in
-    OnWay (fieldsSaid (take (s .n) (rowFields (s .t))) (wordsFrom (s .at) (s .line .now))) (s .line .now) (s .out .now) (l .out) (s .from) (s .at)
+    OnWay (take (s .n) (rowFields (s .t))) (s .line .now) (s .out .now) (l .out) (s .from) (s .at)
     (fieldIn (rowFields (s .t)) (l .i) ∷ drop (l .i + 1) (take (s .n) (rowFields (s .t)))) (l .a) (l .k)
 way c =
     let s = c .before .before .before .before in
@@ -52,7 +51,7 @@ next : (c : tie.After-known-told2 Inv-loop μ-loop) → let h = c .before .befor
     let k = h .before .before .before .before in
     let l = k .before .before .before .before .before in
     let s = l .before .before .before .args in
-    OnWay (fieldsSaid (take (s .n) (rowFields (s .t))) (wordsFrom (s .at) (s .line .now))) (s .line .now) (s .out .now) (h .field .last .1 .1 .0)
+    OnWay (take (s .n) (rowFields (s .t))) (s .line .now) (s .out .now) (h .field .last .1 .1 .0)
     (s .from) (s .at) (drop (l .loop .i + 1) (take (s .n) (rowFields (s .t)))) (k .before .end .given .0 .0 + 1) (c .before .m .given .0 .0)
 next c =
     let h = c .before .before .before .before .before in
@@ -67,7 +66,9 @@ same-length : tie.Need-same-length Inv-loop μ-loop
 same-length c = c .before .before .before .before .loop .inv .1
 
 returns : tie.Need-returns Inv-loop μ-loop
-returns c = way-missing (way (c .before .before .before)) (word-missing _ _ (sym (c .before .before .word-at .ensures) ∙ c .enum-told .given .1))
+returns c = let y = way (c .before .before .before) in
+    let n = word-missing _ _ (sym (c .before .before .word-at .ensures) ∙ c .enum-told .given .1) in
+    (missing-none y n, missing-lays y n)
 
 sub-field : tie.Need-sub-field Inv-loop μ-loop
 sub-field c = omega (arith, found (c .before) .forward)
@@ -91,7 +92,9 @@ same-length-2 c = let h = c .before .before .before .before in
 returns-2 : tie.Need-returns-2 Inv-loop μ-loop
 returns-2 c = let h = c .before .before .before .before in
     let k = h .before .before .before .before in
-    way-bad (way (k .before .before .before .before)) (found k) (rw (c .enum-told2 .given .1) at (said h))
+    let y = way (k .before .before .before .before) in
+    let u : Unfilled _ _ _ = rw (c .enum-told2 .given .1) at (said h) in
+    (bad-none y (found k) u, bad-lays y (found k) u)
 
 add-a : tie.Need-add-a Inv-loop μ-loop
 add-a c = omega (arith, found (c .before .before .before .before .before .before .before .before .before) .inside)
@@ -103,7 +106,9 @@ loop-again c = let h = c .before .before .before .before .before in
 
 returns-3 : tie.Need-returns-3 Inv-loop μ-loop
 returns-3 c = let s = c .before .before .before .before in
-    way-end (rw (fields-gone (rowFields (s .args .t)) (s .args .n) (c .before .loop .i) (c .loop-test .left) (s .pre .0)) at (c .before .loop .inv .2))
+    let g = fields-gone (rowFields (s .args .t)) (s .args .n) (c .before .loop .i) (c .loop-test .left) (s .pre .0) in
+    let y : OnWay _ _ _ _ _ _ [] _ _ = rw g at (c .before .loop .inv .2) in
+    (end-places y, end-lays y)
 
 pub fields-spec : {M : Type 1} → statement M
 fields-spec =

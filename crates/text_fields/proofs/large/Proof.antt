@@ -9,7 +9,7 @@ use Rattle.text_fields.proofs.large.Statement.{statement}
 use Rattle.text_fields.proofs.large.Tie as tie
 
 returns : tie.Need-returns
-returns c = unsaid _ _ (numbered-none quad (number-bad (c .enum-told .given .1) (c .before .before .decimal .ensures)))
+returns c = unsaid _ (numbered-none quad (number-bad (c .enum-told .given .1) (c .before .before .decimal .ensures)))
 
 returns-2 : tie.Need-returns-2
 returns-2 c = let k = c .before .before .before .before in

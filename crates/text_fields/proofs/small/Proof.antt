@@ -12,11 +12,11 @@ use Rattle.text_fields.proofs.small.Statement.{statement}
 use Rattle.text_fields.proofs.small.Tie as tie
 
 returns : tie.Need-returns
-returns c = unsaid _ _ (numbered-none octet (number-bad (c .enum-told .given .1) (c .before .before .decimal .ensures)))
+returns c = unsaid _ (numbered-none octet (number-bad (c .enum-told .given .1) (c .before .before .decimal .ensures)))
 
 returns-2 : tie.Need-returns-2
 returns-2 c = let k = c .before in
-    unsaid _ _
+    unsaid _
     (numbered-over octet (number-is (k .before .x .given .0 .0) (k .before .x .given .1) (k .before .before .before .decimal .ensures))
     (omega (arith, c .if1 .taken)))
 

@@ -27,10 +27,10 @@ read : (c : tie.After-known-told) → let w = start c .args .word .now in
 read c = whole (rw (c .before .n .given .1) at (c .before .before .before .before .dotted .ensures))
 
 returns : tie.Need-returns
-returns c = unsaid _ _ (counted-none quad ((rw (c .enum-told .given .1) at (c .before .before .before .dotted .ensures)) .is))
+returns c = unsaid _ (counted-none quad ((rw (c .enum-told .given .1) at (c .before .before .before .dotted .ensures)) .is))
 
 returns-2 : tie.Need-returns-2
-returns-2 c = let f = read (c .before) in unsaid _ _ (counted-over quad (f .is) (omega (arith, f .size, c .if1 .taken)))
+returns-2 c = let f = read (c .before) in unsaid _ (counted-over quad (f .is) (omega (arith, f .size, c .if1 .taken)))
 
 part-put-quads-end : tie.Need-part-put-quads-end
 part-put-quads-end c = omega (arith, read (c .before) .short, start (c .before) .pre .0)

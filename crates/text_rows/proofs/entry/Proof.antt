@@ -9,10 +9,10 @@ use borrow.Author.Needs.{needs}
 use Rattle.numbers.specs.Lists.{first}
 use Rattle.text_words.specs.Words.{between, split, place}
 use Rattle.text_words.proofs.Named.{wordsOf, named-at, named-none}
-use Rattle.text_words.proofs.Words.{unsaid}
 use Rattle.text_words.proofs.WordsFrom.{WordAt, word-missing, word-found}
 use Rattle.text_rows.specs.TableWords.{tableWord, tables, tableNamed}
-use Rattle.text_rows.proofs.EntryWords.{entry-missing, entry-other, fields-room, entry-bad, entry-said}
+use Rattle.text_rows.proofs.EntryWords.{missing-none, missing-front, unlaid, other-none, other-front, fields-room}
+use Rattle.text_rows.proofs.EntryWords.{entry-bad, entry-said, entry-lays}
 use Rattle.text_rows.proofs.entry.Statement.{statement}
 use Rattle.text_rows.proofs.entry.Tie as tie
 
@@ -41,7 +41,9 @@ named c =
     (c .match2 .came)
 
 returns : tie.Need-returns
-returns c = unsaid _ _ (entry-missing _ _ _ (word-missing _ _ (sym (c .before .before .word-at .ensures) ∙ c .enum-told .given .1)))
+returns c = let e = word-missing _ _ (sym (c .before .before .word-at .ensures) ∙ c .enum-told .given .1) in
+    let s = c .before .before .before .before .before .args in
+    (missing-none _ _ _ e, unlaid (s .from) (s .out .now) (missing-front (s .o) (s .at) (s .line .now) e))
 
 sub-place-of : tie.Need-sub-place-of
 sub-place-of c = found c .forward
@@ -55,8 +57,9 @@ part-place-of-end c = found c .inside
 returns-2 : tie.Need-returns-2
 unfolding tableNamed
 returns-2 c = let k = c .before .before .before .before in
-    unsaid _ _
-    (entry-other (start k .args .o) (found k) (named-none tableWord _ tables (c .before .place-of .result) (place-is (c .before)) (omega arith)))
+    let s = start k .args in
+    let e = named-none tableWord _ tables (c .before .place-of .result) (place-is (c .before)) (omega arith) in
+    (other-none (s .o) (found k) e, unlaid (s .from) (s .out .now) (other-front (s .o) (found k) e))
 
 add-fields : tie.Need-add-fields
 add-fields c = omega (arith, found (c .before .before .before .before .before) .inside)
@@ -70,13 +73,21 @@ returns-3 : tie.Need-returns-3
 returns-3 c = let r = c .before .before .before .before in
     let f = r .before .before in
     let k = f .before .before .before .before .before in
-    entry-bad (start k .args .o) (found k) (named (f .before)) (f .field-count .ensures) (rw (c .enum-told2 .given .1) at (r .fields .ensures))
+    let s = start k .args in
+    let m = f .field-count .ensures in (
+      entry-bad (s .o) (found k) (named (f .before)) m (rw (c .enum-told2 .given .1) at (r .fields .ensures .0)),
+      entry-lays (s .o) (found k) (named (f .before)) m (s .from) (s .out .now) (r .fields .ensures .1),
+    )
 
 returns-4 : tie.Need-returns-4
 returns-4 c = let r = c .before .before .before .before .before in
     let f = r .before .before in
     let k = f .before .before .before .before .before in
-    entry-said (start k .args .o) (found k) (named (f .before)) (f .field-count .ensures) (rw (c .before .end2 .given .1) at (r .fields .ensures))
+    let s = start k .args in
+    let m = f .field-count .ensures in (
+      entry-said (s .o) (found k) (named (f .before)) m (rw (c .before .end2 .given .1) at (r .fields .ensures .0)),
+      entry-lays (s .o) (found k) (named (f .before)) m (s .from) (s .out .now) (r .fields .ensures .1),
+    )
 
 pub entry-spec : {M : Type 1} → statement M
 entry-spec =
