@@ -4,7 +4,7 @@
 use mathlib.Core.Path.{_≡_, refl, sym, ap, _∙_}
 use mathlib.Core.Bool.{Bool, true, false, cond, _&&_}
 use mathlib.Core.List.{List, [], _∷_, _++_}
-use mathlib.Core.Option.{Option, none, some, bind}
+use mathlib.Core.Option.{Option, none, some, bind, Option·elim}
 use Prim.Native.Nat.{ℕ, zero, suc, _+_, _-_, _*_, _≤_, _<_}
 use native.Mathlib.Numerals.{add-one}
 use native.Mathlib.Omega.{arith}
@@ -21,7 +21,7 @@ use Rattle.rows.specs.Fields.{sequence, integer, within, rowBytes}
 use Rattle.instance_fields.specs.declared.Part.{Part}
 use Rattle.instance_fields.specs.declared.Part.the-variants.{Of, Amiss}
 use Rattle.instance_fields.specs.Indices.{Parsed, parseField, parseFields}
-use Rattle.instance_fields.specs.Reading.{partAt, counting, countAt, largest, anyPart}
+use Rattle.instance_fields.specs.Reading.{partAt, counting, countAt, largest, anyPart, partsFront, fieldFront, keyFront}
 
 pub drop-next : (xs : List ℕ) (i : ℕ) → i < length xs → drop i xs ≡ getD xs i 0 ∷ drop (i + 1) xs
 drop-next xs i h = rw (add-one i) (drop-cons xs i 0 h)
@@ -116,6 +116,43 @@ module _ (w : Width) (lo hi : ℕ) (index : List ℕ) (at : ℕ) where
   pub parse-sequence : parseField (sequence w lo hi) (drop at index) ≡ afterCount w index (countAt lo hi index at)
   parse-sequence = split (ltb at (length index)) (λ e. rw (on e, e) (counted (getD index at 0))) (λ e. rw (off e, e) nothing)
 
+-- ---- what is laid of a field at a place
+
+abbrev pub partFront : Width → Part → List ℕ
+partFront w Amiss = []
+partFront w (Of x next left) = bytes w x
+
+abbrev pub countFront : Width → List ℕ → Part → List ℕ
+countFront w index Amiss = []
+countFront w index (Of n next left) = n ∷ partsFront w (take n (drop next index))
+
+module _ (w : Width) (lo hi : ℕ) (index : List ℕ) (at : ℕ) where
+  pub front-integer : hi < bound w → fieldFront (integer w lo hi) (drop at index) ≡ partFront w (partAt lo hi index at)
+  unfolding fieldFront
+  front-integer h =
+      let y = getD index at 0 in
+      split (ltb at (length index))
+      (λ e. rw (on w lo hi index at e, e)
+      (split (within lo hi y) (λ q. rw (q, lt-ltb y (bound w) (omega (arith, within-most lo hi y q)))) (λ q. rw q)))
+      (λ e. rw (off w lo hi index at e, e))
+
+  counted-front : (n : ℕ) → fieldFront (sequence w lo hi) (n ∷ drop (at + 1) index)
+      ≡ countFront w index (counting (cond (within lo hi n) (Of n (at + 1) (length index - (at + 1))) Amiss))
+  unfolding fieldFront
+  counted-front n =
+      let v = drop (at + 1) index in
+      rw (← length-drop (at + 1) index)
+      (split (within lo hi n) (λ q. rw q (split (leb n (length v)) (λ m. rw m) (λ m. rw m))) (λ q. rw q))
+
+  no-front : fieldFront (sequence w lo hi) [] ≡ []
+  unfolding fieldFront
+  no-front = refl
+
+  pub front-sequence : fieldFront (sequence w lo hi) (drop at index) ≡ countFront w index (countAt lo hi index at)
+  front-sequence =
+      split (ltb at (length index)) (λ e. rw (on w lo hi index at e, e) (counted-front (getD index at 0)))
+      (λ e. rw (off w lo hi index at e, e) no-front)
+
 -- ---- the parts of a sequence, each a field of its own
 
 abbrev pub singles : List ℕ → List (List ℕ)
@@ -140,6 +177,15 @@ parse-parts w (suc n) (x ∷ v) h =
     split (ltb x (bound w))
     (λ e. rw (e, within-yes 0 (largest w) x (omega arith) (largest-is w x (ltb-true x (bound w) e)), i)
     (split (fit w (take n v)) (λ q. rw q) (λ q. rw q)))
+    (λ e. rw e (split (within 0 (largest w) x) (λ q. rw q) (λ q. rw q)))
+
+pub parts-front : (w : Width) (n : ℕ) (v : List ℕ) → n ≤ length v → keyFront (replicate n (anyPart w)) v ≡ partsFront w (take n v)
+unfolding keyFront fieldFront parseField partsFront Option·elim
+parts-front w zero v h = refl
+parts-front w (suc n) [] h = absurd (omega arith)
+parts-front w (suc n) (x ∷ v) h =
+    let i = parts-front w n v (omega arith) in
+    split (ltb x (bound w)) (λ e. rw (e, within-yes 0 (largest w) x (omega arith) (largest-is w x (ltb-true x (bound w) e)), i))
     (λ e. rw e (split (within 0 (largest w) x) (λ q. rw q) (λ q. rw q)))
 
 pub bytes-parts : (w : Width) (xs : List ℕ) → rowBytes (replicate (length xs) (anyPart w)) (singles xs) ≡ bytesOf w xs

@@ -1,4 +1,5 @@
 pub mod Fields
 pub mod Indices
+pub mod Fronts
 pub mod Takes
 pub mod Way

@@ -20,37 +20,49 @@ use Rattle.instance_fields.specs.declared.Read.{Read}
 use Rattle.instance_fields.specs.declared.Read.the-variants.{Next, Bad}
 use Rattle.instance_fields.specs.declared.Part.the-variants.{Of, Amiss}
 use Rattle.numbers.specs.Laid.{laid}
-use Rattle.instance_fields.specs.Reading.{partAt, countAt, anyPart, Reads, ReadsField, ReadsFields}
+use Rattle.instance_fields.specs.Reading.{partAt, countAt, anyPart, Reads, ReadsField, ReadsFields, partsFront, fieldFront, keyFront}
 use Rattle.instance_fields.proofs.Fields.{count-of, parse-integer, parse-sequence, singles, parse-parts, bytes-parts}
-use Rattle.numbers.proofs.Laid.{laid-set, laid-laid}
+use Rattle.instance_fields.proofs.Fields.{partFront, countFront, front-integer, front-sequence, parts-front}
+use Rattle.numbers.proofs.Laid.{laid-nil, laid-set, laid-laid}
 
 -- a count laid, and what it counts behind it
 laid-counted : (at n : ℕ) (b w : List ℕ) → at + 1 ≤ length w → laid (at + 1) b (set w at n) ≡ laid at (n ∷ b) w
 laid-counted at n b w h = rw (laid-set at n w (omega arith)) (laid-laid at (n ∷ []) b w h)
 
-module _ (w : Width) (lo hi : ℕ) (index found after : List ℕ) (at byte : ℕ) where
+module _ (w : Width) (lo hi : ℕ) (index : List ℕ) (at byte : ℕ) where
   -- ---- a number
 
   module _ (h : hi < bound w) where
-    pub number-bad : partAt lo hi index at ≡ Amiss → ReadsField (integer w lo hi) index found after at byte Bad
-    number-bad e = rw (parse-integer w lo hi index at h, e) refl
+    module _ (e : partAt lo hi index at ≡ Amiss) where
+      pub number-bad : ReadsField (integer w lo hi) index at byte Bad
+      number-bad = rw (parse-integer w lo hi index at h, e) refl
 
-    pub number-taken : {x next left : ℕ} → partAt lo hi index at ≡ Of x next left → (end : ℕ) → end ≡ byte + size w
-        → after ≡ laid byte (bytes w x) found → ReadsField (integer w lo hi) index found after at byte (Next next end)
-    number-taken {x} {next} e end p b =
-        rw (parse-integer w lo hi index at h, e) (record {
-          next = next;
-          end = end;
-          answer-is = refl;
-          rest-is = refl;
-          byte-is = p ∙ ap (λ n. byte + n) (sym (length-bytes w x));
-          buffer-is = b;
-        })
+      pub number-unlaid : (found : List ℕ) → found ≡ laid byte (fieldFront (integer w lo hi) (drop at index)) found
+      number-unlaid found = sym (ap (λ u. laid byte u found) (front-integer w lo hi index at h ∙ ap (partFront w) e) ∙ laid-nil byte found)
+
+    module _ {x next left : ℕ} (e : partAt lo hi index at ≡ Of x next left) where
+      pub number-taken : (end : ℕ) → end ≡ byte + size w → ReadsField (integer w lo hi) index at byte (Next next end)
+      number-taken end p =
+          rw (parse-integer w lo hi index at h, e) (record {
+            next = next;
+            end = end;
+            answer-is = refl;
+            rest-is = refl;
+            byte-is = p ∙ ap (λ n. byte + n) (sym (length-bytes w x));
+          })
+
+      pub number-laid : (found after : List ℕ) → after ≡ laid byte (bytes w x) found
+          → after ≡ laid byte (fieldFront (integer w lo hi) (drop at index)) found
+      number-laid found after b = b ∙ ap (λ u. laid byte u found) (sym (front-integer w lo hi index at h ∙ ap (partFront w) e))
 
   -- ---- a sequence
 
-  pub sequence-bad : countAt lo hi index at ≡ Amiss → ReadsField (sequence w lo hi) index found after at byte Bad
-  sequence-bad e = rw (parse-sequence w lo hi index at, e) refl
+  module _ (e : countAt lo hi index at ≡ Amiss) where
+    pub sequence-bad : ReadsField (sequence w lo hi) index at byte Bad
+    sequence-bad = rw (parse-sequence w lo hi index at, e) refl
+
+    pub sequence-unlaid : (found : List ℕ) → found ≡ laid byte (fieldFront (sequence w lo hi) (drop at index)) found
+    sequence-unlaid found = sym (ap (λ u. laid byte u found) (front-sequence w lo hi index at ∙ ap (countFront w index) e) ∙ laid-nil byte found)
 
   module _ {n next left : ℕ} (e : countAt lo hi index at ≡ Of n next left) where
     follow : n ≤ length (drop next index)
@@ -64,31 +76,33 @@ module _ (w : Width) (lo hi : ℕ) (index found after : List ℕ) (at byte : ℕ
         let xs = take n (drop next index) in
         ap (λ m. rowBytes (replicate m (anyPart w)) (singles xs)) (sym parts-length) ∙ bytes-parts w xs
 
-    behind-count : byte + 1 ≤ length found → (r : Read) (b : Bool)
+    behind-count : (r : Read) (b : Bool)
         → Reads (rowBytes (replicate n (anyPart w)))
         (cond b (some (record { holds = singles (take n (drop next index)); rest = drop n (drop next index) })) none)
-        index (set found byte n) after (byte + 1) r
+        index (byte + 1) r
         → Reads (fieldBytes (sequence w lo hi)) (cond b (some (record { holds = take n (drop next index); rest = drop (next + n) index })) none)
-        index found after byte r
-    behind-count h r false g = g
-    behind-count h r true g =
-        let xs = take n (drop next index) in
-        record {
-          next = g .next;
-          end = g .end;
-          answer-is = g .answer-is;
-          rest-is = sym (drop-drop n next index) ∙ g .rest-is;
-          byte-is = omega (arith, g .byte-is, ap length parts-bytes);
-          buffer-is =
-              g .buffer-is ∙ ap (λ u. laid (byte + 1) u (set found byte n)) parts-bytes ∙ laid-counted byte n (bytesOf w xs) found h
-              ∙ ap (λ m. laid byte (m ∷ bytesOf w xs) found) (sym parts-length);
-        }
+        index byte r
+    behind-count r false g = g
+    behind-count r true g = record {
+      next = g .next;
+      end = g .end;
+      answer-is = g .answer-is;
+      rest-is = sym (drop-drop n next index) ∙ g .rest-is;
+      byte-is = omega (arith, g .byte-is, ap length parts-bytes);
+    }
 
-    pub sequence-read : byte + 1 ≤ length found → (r : Read)
-        → ReadsFields (replicate n (anyPart w)) index (set found byte n) after next (byte + 1) r → ReadsField (sequence w lo hi) index found after at byte r
-    sequence-read h r g =
+    pub sequence-read : (r : Read) → ReadsFields (replicate n (anyPart w)) index next (byte + 1) r → ReadsField (sequence w lo hi) index at byte r
+    sequence-read r g =
         rw (parse-sequence w lo hi index at, e)
-        (behind-count h r (fit w (take n (drop next index))) (rw (parse-parts w n (drop next index) follow) at g))
+        (behind-count r (fit w (take n (drop next index))) (rw (parse-parts w n (drop next index) follow) at g))
+
+    pub sequence-laid : (found after : List ℕ) → byte + 1 ≤ length found
+        → after ≡ laid (byte + 1) (keyFront (replicate n (anyPart w)) (drop next index)) (set found byte n)
+        → after ≡ laid byte (fieldFront (sequence w lo hi) (drop at index)) found
+    sequence-laid found after h b =
+        b ∙ ap (λ u. laid (byte + 1) u (set found byte n)) (parts-front w n (drop next index) follow)
+        ∙ laid-counted byte n (partsFront w (take n (drop next index))) found h
+        ∙ ap (λ u. laid byte u found) (sym (front-sequence w lo hi index at ∙ ap (countFront w index) e))
 
 -- ---- what is legal is no longer than its field allows
 

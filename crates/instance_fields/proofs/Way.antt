@@ -2,8 +2,8 @@
 -- A field that was taken ends where the next begins, in the index and in the key (`Took`), and the two are laid as one. Where a field is not
 -- taken, neither are fields that begin with it. So what is left to be read decides what all are read as (`OnWay`). Assumes nothing.
 use mathlib.Core.Path.{_≡_, refl, sym, ap, _∙_}
-use mathlib.Core.List.{List, [], _∷_}
-use mathlib.Core.Option.{Option, none, some, Option·map, bind}
+use mathlib.Core.List.{List, [], _∷_, _++_, append-nil}
+use mathlib.Core.Option.{Option, none, some, Option·map, Option·elim, bind}
 use Prim.Native.Nat.{ℕ, suc, _+_, _≤_, _<_}
 use native.Mathlib.Nat.{add-zero}
 use native.Mathlib.Numerals.{add-one}
@@ -21,8 +21,9 @@ use Rattle.instance_fields.specs.declared.Read.{Read}
 use Rattle.instance_fields.specs.declared.Read.the-variants.{Next, Bad}
 use Rattle.numbers.specs.Laid.{laid}
 use Rattle.instance_fields.specs.Indices.{Parsed, parseField, led, parseFields}
-use Rattle.instance_fields.specs.Reading.{Reads, ReadsField, ReadsFields}
+use Rattle.instance_fields.specs.Reading.{Reads, ReadsField, ReadsFields, fieldFront, keyFront}
 use Rattle.instance_fields.proofs.Indices.{parsed}
+use Rattle.instance_fields.proofs.Fronts.{field-front, front-next}
 use Rattle.instance_fields.proofs.Takes.{bytes-most}
 use Rattle.numbers.proofs.Laid.{laid-nil, length-laid, laid-laid}
 
@@ -35,39 +36,44 @@ pub record Took {A : Type 0} (bytes : A → List ℕ) (o : Option (Parsed A)) (i
   pub byte-is : end ≡ byte + length (bytes (it .holds))
   pub buffer-is : after ≡ laid byte (bytes (it .holds)) found
 
-module _ {A : Type 0} (bytes : A → List ℕ) (index found after : List ℕ) (byte : ℕ) where
-  pub took : (o : Option (Parsed A)) {r : Read} {next end : ℕ} → Reads bytes o index found after byte r → r ≡ Next next end →
-      Took bytes o index found after byte next end
-  took none e n = let z : _≡_ {A = ℕ} 0 1 = cc in absurd (omega arith)
-  took (some p) {r} {next} {end} t n =
-      let q = t .answer-is in
-      let e : t .next ≡ next = cc in
-      let f : t .end ≡ end = cc in
-      record { it = p; is = refl; rest-is = rw (← e) (t .rest-is); byte-is = rw (← f) (t .byte-is); buffer-is = t .buffer-is }
+-- what is parsed whole is laid whole
+pub took : {A : Type 0} (bytes : A → List ℕ) (index found after : List ℕ) (byte : ℕ) (o : Option (Parsed A)) (front : List ℕ) {r : Read} {next end : ℕ}
+    → ((p : Parsed A) → o ≡ some p → front ≡ bytes (p .holds)) → Reads bytes o index byte r → after ≡ laid byte front found → r ≡ Next next end
+    → Took bytes o index found after byte next end
+took bytes index found after byte none front h e b n = let z : _≡_ {A = ℕ} 0 1 = cc in absurd (omega arith)
+took bytes index found after byte (some p) front {r} {next} {end} h t b n =
+    let q = t .answer-is in
+    let e : t .next ≡ next = cc in
+    let f : t .end ≡ end = cc in
+    record {
+      it = p;
+      is = refl;
+      rest-is = rw (← e) (t .rest-is);
+      byte-is = rw (← f) (t .byte-is);
+      buffer-is = b ∙ ap (λ u. laid byte u found) (h p refl);
+    }
 
-  pub untaken : (o : Option (Parsed A)) {r : Read} → Reads bytes o index found after byte r → r ≡ Bad → o ≡ none
-  untaken none e b = refl
-  untaken (some p) t b = let f = t .answer-is in cc
+pub untaken : {A : Type 0} (bytes : A → List ℕ) (index : List ℕ) (byte : ℕ) (o : Option (Parsed A)) {r : Read} → Reads bytes o index byte r → r ≡ Bad
+    → o ≡ none
+untaken bytes index byte none e b = refl
+untaken bytes index byte (some p) t b = let f = t .answer-is in cc
 
 -- ---- a field, and fields behind it
 
 -- the first is not taken
-unread : (k : Field) (ks : List Field) (index found mid after : List ℕ) (at byte : ℕ) {r : Read} → ReadsField k index found mid at byte r → r ≡ Bad
-    → ReadsFields (k ∷ ks) index found after at byte Bad
-unfolding parseFields bind
-unread k ks index found mid after at byte e b = rw (untaken (fieldBytes k) index found mid byte (parseField k (drop at index)) e b) refl
+module _ (k : Field) (ks : List Field) (index : List ℕ) (at : ℕ) (e : parseField k (drop at index) ≡ none) where
+  unread : (byte : ℕ) → ReadsFields (k ∷ ks) index at byte Bad
+  unfolding parseFields bind
+  unread byte = rw e refl
+
+  unread-front : keyFront (k ∷ ks) (drop at index) ≡ fieldFront k (drop at index)
+  unfolding keyFront Option·elim
+  unread-front = rw e (append-nil (fieldFront k (drop at index)))
 
 -- none is left
-nothing-left : (index found : List ℕ) (at byte : ℕ) → ReadsFields [] index found found at byte (Next at byte)
+nothing-left : (index : List ℕ) (at byte : ℕ) → ReadsFields [] index at byte (Next at byte)
 unfolding parseFields bind
-nothing-left index found at byte = record {
-  next = at;
-  end = byte;
-  answer-is = refl;
-  rest-is = refl;
-  byte-is = sym (add-zero byte);
-  buffer-is = sym (laid-nil byte found);
-}
+nothing-left index at byte = record { next = at; end = byte; answer-is = refl; rest-is = refl; byte-is = sym (add-zero byte) }
 
 -- the first is taken
 module _ (k : Field) (index found mid : List ℕ) (at byte next end : ℕ)
@@ -84,56 +90,74 @@ module _ (k : Field) (index found mid : List ℕ) (at byte next end : ℕ)
   same-length : length mid ≡ length found
   same-length = ap length (t .buffer-is) ∙ length-laid byte (fieldBytes k (t .it .holds)) found inside
 
-  join : (ks : List Field) (after : List ℕ) (r : Read) (o : Option (Parsed (List (List ℕ)))) → Reads (rowBytes ks) o index mid after end r
-      → Reads (rowBytes (k ∷ ks)) (Option·map (led (t .it .holds)) o) index found after byte r
-  join ks after r none e = e
-  join ks after r (some q) e =
-      let x = fieldBytes k (t .it .holds) in
-      let y = rowBytes ks (q .holds) in
-      record {
-        next = e .next;
-        end = e .end;
-        answer-is = e .answer-is;
-        rest-is = e .rest-is;
-        byte-is = omega (arith, e .byte-is, t .byte-is, length-append x y);
-        buffer-is =
-            e .buffer-is ∙ ap (λ n. laid n y mid) (t .byte-is) ∙ ap (laid (byte + length x) y) (t .buffer-is)
-            ∙ laid-laid byte x y found inside;
-      }
+  join : (ks : List Field) (r : Read) (o : Option (Parsed (List (List ℕ)))) → Reads (rowBytes ks) o index end r
+      → Reads (rowBytes (k ∷ ks)) (Option·map (led (t .it .holds)) o) index byte r
+  join ks r none e = e
+  join ks r (some q) e = record {
+    next = e .next;
+    end = e .end;
+    answer-is = e .answer-is;
+    rest-is = e .rest-is;
+    byte-is = omega (arith, e .byte-is, t .byte-is, length-append (fieldBytes k (t .it .holds)) (rowBytes ks (q .holds)));
+  }
 
-  joined : (ks : List Field) (after : List ℕ) (r : Read) → ReadsFields ks index mid after next end r → ReadsFields (k ∷ ks) index found after at byte r
+  joined : (ks : List Field) (r : Read) → ReadsFields ks index next end r → ReadsFields (k ∷ ks) index at byte r
   unfolding parseFields bind
-  joined ks after r e = rw (t .is, t .rest-is) (join ks after r (parseFields ks (drop next index)) e)
+  joined ks r e = rw (t .is, t .rest-is) (join ks r (parseFields ks (drop next index)) e)
+
+  joined-front : (ks : List Field) → keyFront (k ∷ ks) (drop at index) ≡ fieldBytes k (t .it .holds) ++ keyFront ks (drop next index)
+  joined-front ks = front-next k ks (drop at index) (t .it) (t .is) ∙ ap (λ v. fieldBytes k (t .it .holds) ++ keyFront ks v) (t .rest-is)
+
+  joined-laid : (ks : List Field) → laid end (keyFront ks (drop next index)) mid ≡ laid byte (keyFront (k ∷ ks) (drop at index)) found
+  joined-laid ks =
+      let x = fieldBytes k (t .it .holds) in
+      let y = keyFront ks (drop next index) in
+      ap (λ n. laid n y mid) (t .byte-is) ∙ ap (laid (byte + length x) y) (t .buffer-is) ∙ laid-laid byte x y found inside
+      ∙ ap (λ u. laid byte u found) (sym (joined-front ks))
 
 -- ---- on the way through fields
 
--- from the place `at` on the fields ks are left; where they are read from there, all are read from the first place
+-- from the place `at` on the fields ks are left; where they are read and laid from there, all are read and laid from the first place
 pub record OnWay (all : List Field) (index found : List ℕ) (at₀ byte₀ : ℕ) (ks : List Field) (mid : List ℕ) (at byte : ℕ) : Type 0 where
   pub room : byte + longest ks ≤ length mid
-  pub onward : (after : List ℕ) (r : Read) → ReadsFields ks index mid after at byte r → ReadsFields all index found after at₀ byte₀ r
+  pub onward : (r : Read) → ReadsFields ks index at byte r → ReadsFields all index at₀ byte₀ r
+  pub lays : laid byte (keyFront ks (drop at index)) mid ≡ laid byte₀ (keyFront all (drop at₀ index)) found
 
 pub way-start : (all : List Field) (index found : List ℕ) (at byte : ℕ) → byte + longest all ≤ length found
     → OnWay all index found at byte all found at byte
-way-start all index found at byte h = record { room = h; onward = λ after r e. e }
+way-start all index found at byte h = record { room = h; onward = λ r e. e; lays = refl }
 
 module _ {all : List Field} {index found : List ℕ} {at₀ byte₀ : ℕ} {k : Field} {ks : List Field} {mid : List ℕ} {at byte : ℕ}
-    (w : OnWay all index found at₀ byte₀ (k ∷ ks) mid at byte) where
-  pub way-next : (after : List ℕ) {r : Read} {next end : ℕ} → ReadsField k index mid after at byte r → r ≡ Next next end
-      → OnWay all index found at₀ byte₀ ks after next end
-  way-next after {r} {next} {end} e n =
-      let t = took (fieldBytes k) index mid after byte (parseField k (drop at index)) e n in
+    (w : OnWay all index found at₀ byte₀ (k ∷ ks) mid at byte) {r : Read} (e : ReadsField k index at byte r)
+    (after : List ℕ) (b : after ≡ laid byte (fieldFront k (drop at index)) mid) where
+  pub way-next : {next end : ℕ} → r ≡ Next next end → OnWay all index found at₀ byte₀ ks after next end
+  way-next {next} {end} n =
+      let v = drop at index in
+      let t = took (fieldBytes k) index mid after byte (parseField k v) (fieldFront k v) (field-front k v) e b n in
       let h : byte + longestField k ≤ length mid = omega (arith, w .room) in
       record {
         room = omega (arith, w .room, advanced k index mid after at byte next end t h, same-length k index mid after at byte next end t h);
-        onward = λ last r' e'. w .onward last r' (joined k index mid after at byte next end t h ks last r' e');
+        onward = λ r' e'. w .onward r' (joined k index mid after at byte next end t h ks r' e');
+        lays = joined-laid k index mid after at byte next end t h ks ∙ w .lays;
       }
 
-  pub way-stop : (mid' after : List ℕ) {r : Read} → ReadsField k index mid mid' at byte r → r ≡ Bad → ReadsFields all index found after at₀ byte₀ Bad
-  way-stop mid' after e b = w .onward after Bad (unread k ks index mid mid' after at byte e b)
+  module _ (n : r ≡ Bad) where
+    none-taken : parseField k (drop at index) ≡ none
+    none-taken = untaken (fieldBytes k) index byte (parseField k (drop at index)) e n
 
-pub way-end : {all : List Field} {index found : List ℕ} {at₀ byte₀ : ℕ} {mid : List ℕ} {at byte : ℕ} → OnWay all index found at₀ byte₀ [] mid at byte
-    → ReadsFields all index found mid at₀ byte₀ (Next at byte)
-way-end {all} {index} {found} {at₀} {byte₀} {mid} {at} {byte} w = w .onward mid (Next at byte) (nothing-left index mid at byte)
+    pub way-stop : ReadsFields all index at₀ byte₀ Bad
+    way-stop = w .onward Bad (unread k ks index at none-taken byte)
+
+    pub stop-lays : after ≡ laid byte₀ (keyFront all (drop at₀ index)) found
+    stop-lays = b ∙ ap (λ u. laid byte u mid) (sym (unread-front k ks index at none-taken)) ∙ w .lays
+
+module _ {all : List Field} {index found : List ℕ} {at₀ byte₀ : ℕ} {mid : List ℕ} {at byte : ℕ} (w : OnWay all index found at₀ byte₀ [] mid at byte) where
+  pub way-end : ReadsFields all index at₀ byte₀ (Next at byte)
+  way-end = w .onward (Next at byte) (nothing-left index at byte)
+
+  pub end-lays : mid ≡ laid byte₀ (keyFront all (drop at₀ index)) found
+  unfolding keyFront
+  end-lays = sym (laid-nil byte mid) ∙ w .lays
 
 -- ---- the fields of a key by their places: they are the first of its row
 

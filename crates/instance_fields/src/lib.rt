@@ -3,13 +3,13 @@ use rows::Form;
 use rows::Table;
 ghost use mathlib.Core.Path.{_≡_};
 ghost use Prim.Native.Nat.{_+_, _*_, _≤_, _<_};
-ghost use lib.ListN.{length, replicate};
+ghost use lib.ListN.{length, drop, replicate};
 ghost use Rattle.numbers.specs.Laid.{laid};
 ghost use Rattle.numbers.specs.BigEndian.{size, bound, bytes};
 ghost use Rattle.rows.specs.Fields.{sequence, integer};
 ghost use Rattle.rows.specs.Forms.{fieldOf, roomOf};
 ghost use Rattle.rows.specs.Rows.{keyFields, keyMax};
-ghost use Rattle.instance_fields.specs.Reading.{widthOf, largest, anyPart, partAt, countAt, ReadsField, ReadsFields};
+ghost use Rattle.instance_fields.specs.Reading.{widthOf, largest, anyPart, partAt, countAt, ReadsField, ReadsFields, fieldFront, keyFront};
 
 // ---- the parts of an index
 
@@ -108,7 +108,8 @@ fn integer_at(
 ) -> Read
     requires room { ⌜ byte + size (widthOf w) ≤ length (now key) ⌝ }
     requires fits { ⌜ hi < bound (widthOf w) ⌝ }
-    ensures { λ r. ⌜ ReadsField (integer (widthOf w) lo hi) (now (index .entry)) (now (key .entry)) (now (key .exit)) at byte r ⌝ }
+    ensures reads { λ r. ⌜ ReadsField (integer (widthOf w) lo hi) (now (index .entry)) at byte r ⌝ }
+    ensures lays { λ _. ⌜ now (key .exit) ≡ laid byte (fieldFront (integer (widthOf w) lo hi) (drop at (now (index .entry)))) (now (key .entry)) ⌝ }
 {
     let part = number(index, at, lo, hi);
     let Part::Of(x, next, _) = part else {
@@ -121,7 +122,8 @@ fn integer_at(
 // `n` numbers of any size that fits.
 fn numbers_at(w: Size, index: &[u32], at: usize, n: usize, key: &mut [u8], byte: usize) -> Read
     requires { ⌜ byte + n * size (widthOf w) ≤ length (now key) ⌝ }
-    ensures { λ r. ⌜ ReadsFields (replicate n (anyPart (widthOf w))) (now (index .entry)) (now (key .entry)) (now (key .exit)) at byte r ⌝ }
+    ensures reads { λ r. ⌜ ReadsFields (replicate n (anyPart (widthOf w))) (now (index .entry)) at byte r ⌝ }
+    ensures lays { λ _. ⌜ now (key .exit) ≡ laid byte (keyFront (replicate n (anyPart (widthOf w))) (drop at (now (index .entry)))) (now (key .entry)) ⌝ }
 {
     let hi = largest_in(w);
     let mut p = at;
@@ -150,7 +152,8 @@ fn sequence_at(
     byte: usize,
 ) -> Read
     requires { ⌜ byte + 1 + hi * size (widthOf w) ≤ length (now key) ⌝ }
-    ensures { λ r. ⌜ ReadsField (sequence (widthOf w) lo hi) (now (index .entry)) (now (key .entry)) (now (key .exit)) at byte r ⌝ }
+    ensures reads { λ r. ⌜ ReadsField (sequence (widthOf w) lo hi) (now (index .entry)) at byte r ⌝ }
+    ensures lays { λ _. ⌜ now (key .exit) ≡ laid byte (fieldFront (sequence (widthOf w) lo hi) (drop at (now (index .entry)))) (now (key .entry)) ⌝ }
 {
     let counted = count(index, at, lo as u32, hi as u32);
     let Part::Of(n, next, _) = counted else {
@@ -163,7 +166,8 @@ fn sequence_at(
 // A field by its form.
 fn field(f: Form, index: &[u32], at: usize, key: &mut [u8], byte: usize) -> Read
     requires { ⌜ byte + roomOf f ≤ length (now key) ⌝ }
-    ensures { λ r. ⌜ ReadsField (fieldOf f) (now (index .entry)) (now (key .entry)) (now (key .exit)) at byte r ⌝ }
+    ensures reads { λ r. ⌜ ReadsField (fieldOf f) (now (index .entry)) at byte r ⌝ }
+    ensures lays { λ _. ⌜ now (key .exit) ≡ laid byte (fieldFront (fieldOf f) (drop at (now (index .entry)))) (now (key .entry)) ⌝ }
 {
     match f {
         Form::Name(lo, hi) => sequence_at(Size::One, index, at, lo, hi, key, byte),
@@ -176,7 +180,8 @@ fn field(f: Form, index: &[u32], at: usize, key: &mut [u8], byte: usize) -> Read
 // The fields of a table's key, one behind the other.
 pub fn read_fields(t: Table, index: &[u32], key: &mut [u8]) -> Read
     requires { ⌜ keyMax ≤ length (now key) ⌝ }
-    ensures { λ r. ⌜ ReadsFields (keyFields t) (now (index .entry)) (now (key .entry)) (now (key .exit)) 0 0 r ⌝ }
+    ensures reads { λ r. ⌜ ReadsFields (keyFields t) (now (index .entry)) 0 0 r ⌝ }
+    ensures lays { λ _. ⌜ now (key .exit) ≡ laid 0 (keyFront (keyFields t) (now (index .entry))) (now (key .entry)) ⌝ }
 {
     let n = rows::key_len(t);
     let mut at = 0;

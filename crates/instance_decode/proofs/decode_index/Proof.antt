@@ -7,6 +7,8 @@ use borrow.Author.Needs.{needs}
 use Rattle.rows.specs.Rows.{keyFields}
 use Rattle.rows.specs.Fields.{rowBytes}
 use Rattle.instance_fields.specs.Indices.{parseFields}
+use Rattle.instance_fields.specs.Reading.{keyFront}
+use Rattle.instance_fields.proofs.Fronts.{key-front}
 use Rattle.instance_decode.proofs.Answers.{index-unread, index-over, index-whole, made-room}
 use Rattle.instance_fields.proofs.Way.{Took, took, untaken}
 use Rattle.instance_decode.proofs.decode_index.Statement.{statement}
@@ -19,15 +21,15 @@ all c =
     let s = c .before .before .before .before .before .before .before .before .before .before .args in
     let r = c .before .before .before .before .before .read-fields in
     took (rowBytes (keyFields (s .t))) (s .index .now) (s .made .now) (r .last .1 .1 .0) 0
-    (parseFields (keyFields (s .t)) (s .index .now)) (r .ensures) (c .before .read .given .1)
+    (parseFields (keyFields (s .t)) (s .index .now)) (keyFront (keyFields (s .t)) (s .index .now)) (key-front (keyFields (s .t)) (s .index .now))
+    (r .ensures .0) (r .ensures .1) (c .before .read .given .1)
 
 returns : tie.Need-returns
 returns c =
     let s = c .before .before .before .before .before .before .before .before .before .args in
     let r = c .before .before .before .before .read-fields in
     index-unread (s .t) (s .column) (s .index .now) (s .key .now)
-    (untaken (rowBytes (keyFields (s .t))) (s .index .now) (s .made .now) (r .last .1 .1 .0) 0
-    (parseFields (keyFields (s .t)) (s .index .now)) (r .ensures) (c .enum-told .given .1))
+    (untaken (rowBytes (keyFields (s .t))) (s .index .now) 0 (parseFields (keyFields (s .t)) (s .index .now)) (r .ensures .0) (c .enum-told .given .1))
 
 returns-2 : tie.Need-returns-2
 returns-2 c = let s = c .before .before .before .before .before .before .before .before .before .before .before .before .args in

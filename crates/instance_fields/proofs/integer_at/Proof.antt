@@ -4,7 +4,7 @@ use mathlib.Core.Path.{_≡_, sym, _∙_}
 use native.Mathlib.Omega.{arith}
 use Rattle.instance_fields.specs.Reading.{partAt, widthOf}
 use Rattle.instance_fields.specs.declared.Part.the-variants.{Of}
-use Rattle.instance_fields.proofs.Takes.{number-bad, number-taken}
+use Rattle.instance_fields.proofs.Takes.{number-bad, number-unlaid, number-taken, number-laid}
 use Rattle.instance_fields.proofs.Fields.{part-of}
 use borrow.Author.Needs.{needs}
 use Rattle.instance_fields.proofs.integer_at.Statement.{statement}
@@ -18,8 +18,10 @@ returns : tie.Need-returns
 returns c =
     let t = c .before .before .before .before .before in
     let s = t .args in
-    number-bad (widthOf (s .w)) (s .lo) (s .hi) (s .index .now) (s .key .now) (s .key .now) (s .at) (s .byte) (t .pre .1)
-    (sym (c .before .before .number .ensures) ∙ c .enum-told .given .1)
+    let e = sym (c .before .before .number .ensures) ∙ c .enum-told .given .1 in (
+      number-bad (widthOf (s .w)) (s .lo) (s .hi) (s .index .now) (s .at) (s .byte) (t .pre .1) e,
+      number-unlaid (widthOf (s .w)) (s .lo) (s .hi) (s .index .now) (s .at) (s .byte) (t .pre .1) e (s .key .now),
+    )
 
 write-number-requires : tie.Need-write-number-requires
 write-number-requires c κs =
@@ -32,8 +34,10 @@ returns-2 c =
     let t = c .before .before .before .before .before .before .before .before .before .before in
     let s = t .args in
     let n = c .before .before .write-number in
-    number-taken (widthOf (s .w)) (s .lo) (s .hi) (s .index .now) (s .key .now) _ (s .at) (s .byte) (t .pre .1)
-    (found (c .before .before .before .before)) (n .result) (n .ensures .0) (n .ensures .1)
+    let f = found (c .before .before .before .before) in (
+      number-taken (widthOf (s .w)) (s .lo) (s .hi) (s .index .now) (s .at) (s .byte) (t .pre .1) f (n .result) (n .ensures .0),
+      number-laid (widthOf (s .w)) (s .lo) (s .hi) (s .index .now) (s .at) (s .byte) (t .pre .1) f (s .key .now) _ (n .ensures .1),
+    )
 
 pub integer-at-spec : {M : Type 1} → statement M
 integer-at-spec =

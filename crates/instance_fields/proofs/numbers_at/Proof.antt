@@ -1,15 +1,16 @@
 -- `instance_fields::numbers_at` meets its contract. The loop's invariant: read from here on, the numbers left make all of them read from the start on,
 -- and there is room for them (`Way`). The measure is how many numbers are left. Assumes nothing.
-use mathlib.Core.List.{_∷_}
+use mathlib.Core.List.{[], _∷_}
 use mathlib.Core.Path.{_≡_, refl, _∙_}
 use Prim.Native.Nat.{suc, _+_, _-_, _≤_}
 use native.Mathlib.Nat.{sub-zero}
 use native.Mathlib.Omega.{arith}
-use lib.ListN.{length, replicate}
+use lib.ListN.{length, drop, replicate}
+use Rattle.numbers.specs.Laid.{laid}
 use Rattle.rows.proofs.Bounds.{longest}
-use Rattle.instance_fields.specs.Reading.{widthOf, anyPart, ReadsField}
+use Rattle.instance_fields.specs.Reading.{widthOf, anyPart, ReadsField, fieldFront}
 use Rattle.instance_fields.proofs.Fields.{largest-fits, longest-parts}
-use Rattle.instance_fields.proofs.Way.{OnWay, way-start, way-next, way-stop, way-end}
+use Rattle.instance_fields.proofs.Way.{OnWay, way-start, way-next, way-stop, stop-lays, way-end, end-lays}
 use borrow.Author.Needs.{needs}
 use Rattle.instance_fields.proofs.numbers_at.Statement.{statement}
 use Rattle.instance_fields.proofs.numbers_at.Tie as tie
@@ -36,9 +37,14 @@ way c =
 -- what is read of it
 said : (c : tie.After-integer-at Inv-loop μ-loop) → let l = c .before .before .before .loop in
     let s = c .before .before .before .before .before .before .before .args in
-    let r = c .integer-at in
-    ReadsField (anyPart (widthOf (s .w))) (s .index .now) (l .key) (r .last .1 .1 .1 .1 .1 .0) (l .p) (l .k) (r .result)
-said c = rw (c .before .before .before .before .largest-in .ensures) at (c .integer-at .ensures)
+    ReadsField (anyPart (widthOf (s .w))) (s .index .now) (l .p) (l .k) (c .integer-at .result)
+said c = rw (c .before .before .before .before .largest-in .ensures) at (c .integer-at .ensures .0)
+
+-- and laid
+put : (c : tie.After-integer-at Inv-loop μ-loop) → let l = c .before .before .before .loop in
+    let s = c .before .before .before .before .before .before .before .args in
+    c .integer-at .last .1 .1 .1 .1 .1 .0 ≡ laid (l .k) (fieldFront (anyPart (widthOf (s .w))) (drop (l .p) (s .index .now))) (l .key)
+put c = rw (c .before .before .before .before .largest-in .ensures) at (c .integer-at .ensures .1)
 
 loop-holds : tie.Need-loop-holds Inv-loop μ-loop
 loop-holds c =
@@ -58,7 +64,9 @@ same-length : tie.Need-same-length Inv-loop μ-loop
 same-length c = c .before .before .before .before .integer-at .kept .1 .1 .1 .1 .1 .0 ∙ c .before .before .before .before .before .before .before .loop .inv .1
 
 returns : tie.Need-returns Inv-loop μ-loop
-returns c = let r = c .before .before .before .before in way-stop (way (r .before .before)) _ _ (said r) (c .enum-told .given .1)
+returns c = let r = c .before .before .before .before in
+    let w = way (r .before .before) in
+    (way-stop w (said r) _ (put r) (c .enum-told .given .1), stop-lays w (said r) _ (put r) (c .enum-told .given .1))
 
 loop-again : tie.Need-loop-again Inv-loop μ-loop
 loop-again c =
@@ -66,7 +74,7 @@ loop-again c =
     let t = r .before .before in (
       omega (arith, t .loop-test .taken),
       r .integer-at .kept .1 .1 .1 .1 .1 .0 ∙ t .before .loop .inv .1,
-      way-next (way t) _ (said r) (c .before .read .given .1),
+      way-next (way t) (said r) _ (put r) (c .before .read .given .1),
     )
 
 same-length-2 : tie.Need-same-length-2 Inv-loop μ-loop
@@ -76,7 +84,8 @@ returns-2 : tie.Need-returns-2 Inv-loop μ-loop
 returns-2 c =
     let l = c .before .loop in
     let e : c .before .before .before .before .before .args .n - l .i ≡ 0 = omega (arith, c .loop-test .left) in
-    way-end (rw e at (l .inv .2))
+    let w : OnWay _ _ _ _ _ [] _ _ _ = rw e at (l .inv .2) in
+    (way-end w, end-lays w)
 
 pub numbers-at-spec : {M : Type 1} → statement M
 numbers-at-spec =

@@ -5,11 +5,12 @@ use mathlib.Core.Path.{_≡_, refl, ap, _∙_}
 use Prim.Native.Nat.{_+_, _-_, _≤_, _<_}
 use native.Mathlib.Omega.{arith}
 use lib.ListN.{length, drop, drop-of-length-le}
+use Rattle.numbers.specs.Laid.{laid}
 use Rattle.rows.specs.Rows.{keyFields, rowFields}
 use Rattle.rows.specs.Forms.{fieldIn}
 use Rattle.rows.proofs.Bounds.{longestField, key-longest}
-use Rattle.instance_fields.specs.Reading.{ReadsField}
-use Rattle.instance_fields.proofs.Way.{OnWay, way-start, way-next, way-stop, way-end, field-here}
+use Rattle.instance_fields.specs.Reading.{ReadsField, fieldFront}
+use Rattle.instance_fields.proofs.Way.{OnWay, way-start, way-next, way-stop, stop-lays, way-end, end-lays, field-here}
 use Rattle.rows.proofs.Forms.{key-within, room-longest}
 use borrow.Author.Needs.{needs}
 use Rattle.instance_fields.proofs.read_fields.Statement.{statement}
@@ -34,8 +35,14 @@ way c = rw (field-here (c .before .before .before .before .before .args .t) (c .
 -- what is read of it
 said : (c : tie.After-field Inv-loop μ-loop) → let l = c .before .before .before .before .loop in
     let s = c .before .before .before .before .before .before .before .before .args in
-    ReadsField (fieldIn (rowFields (s .t)) (l .i)) (s .index .now) (l .key) (c .field .last .1 .1 .1 .0) (l .at) (l .byte) (c .field .result)
-said c = rw (c .before .before .form-at .ensures) at (c .field .ensures)
+    ReadsField (fieldIn (rowFields (s .t)) (l .i)) (s .index .now) (l .at) (l .byte) (c .field .result)
+said c = rw (c .before .before .form-at .ensures) at (c .field .ensures .0)
+
+-- and laid
+put : (c : tie.After-field Inv-loop μ-loop) → let l = c .before .before .before .before .loop in
+    let s = c .before .before .before .before .before .before .before .before .args in
+    c .field .last .1 .1 .1 .0 ≡ laid (l .byte) (fieldFront (fieldIn (rowFields (s .t)) (l .i)) (drop (l .at) (s .index .now))) (l .key)
+put c = rw (c .before .before .form-at .ensures) at (c .field .ensures .1)
 
 loop-holds : tie.Need-loop-holds Inv-loop μ-loop
 loop-holds c = let s = c .before .before .before in
@@ -52,14 +59,16 @@ same-length : tie.Need-same-length Inv-loop μ-loop
 same-length c = c .before .before .before .before .field .kept .1 .1 .1 .0 ∙ c .before .before .before .before .before .before .before .before .loop .inv .1
 
 returns : tie.Need-returns Inv-loop μ-loop
-returns c = way-stop (way (c .before .before .before .before .before .before .before)) _ _ (said (c .before .before .before .before)) (c .enum-told .given .1)
+returns c = let f = c .before .before .before .before in
+    let w = way (f .before .before .before) in
+    (way-stop w (said f) _ (put f) (c .enum-told .given .1), stop-lays w (said f) _ (put f) (c .enum-told .given .1))
 
 loop-again : tie.Need-loop-again Inv-loop μ-loop
 loop-again c = (
   omega (arith, c .before .before .before .before .before .before .before .before .loop-test .taken),
   c .before .before .before .before .before .field .kept .1 .1 .1 .0 ∙ c .before .before .before .before .before .before .before .before .before .loop .inv .1,
-  way-next (way (c .before .before .before .before .before .before .before .before)) _ (said (c .before .before .before .before .before))
-      (c .before .read .given .1),
+  way-next (way (c .before .before .before .before .before .before .before .before)) (said (c .before .before .before .before .before)) _
+      (put (c .before .before .before .before .before)) (c .before .read .given .1),
 )
 
 same-length-2 : tie.Need-same-length-2 Inv-loop μ-loop
@@ -69,7 +78,9 @@ returns-2 : tie.Need-returns-2 Inv-loop μ-loop
 returns-2 c =
     let l = c .before .loop in
     let t = c .before .before .before .before .before .args .t in
-    way-end (rw (drop-of-length-le (keyFields t) {i = l .i} (omega (arith, c .loop-test .left, c .before .before .key-len .ensures))) at (l .inv .2))
+    let g = drop-of-length-le (keyFields t) {i = l .i} (omega (arith, c .loop-test .left, c .before .before .key-len .ensures)) in
+    let w : OnWay _ _ _ _ _ [] _ _ _ = rw g at (l .inv .2) in
+    (way-end w, end-lays w)
 
 pub read-fields-spec : {M : Type 1} → statement M
 read-fields-spec =

@@ -8,7 +8,7 @@ use lib.ListN.{length, length-set}
 use Rattle.numbers.specs.BigEndian.{size}
 use Rattle.instance_fields.specs.Reading.{countAt, widthOf}
 use Rattle.instance_fields.specs.declared.Part.the-variants.{Of}
-use Rattle.instance_fields.proofs.Takes.{sequence-bad, sequence-read}
+use Rattle.instance_fields.proofs.Takes.{sequence-bad, sequence-unlaid, sequence-read, sequence-laid}
 use Rattle.instance_fields.proofs.Fields.{count-of}
 use borrow.Author.Needs.{needs}
 use Rattle.instance_fields.proofs.sequence_at.Statement.{statement}
@@ -29,8 +29,10 @@ room c = let t = c .before .before .before .before .before .before in omega (ari
 returns : tie.Need-returns
 returns c =
     let s = c .before .before .before .before .before .args in
-    sequence-bad (widthOf (s .w)) (s .lo) (s .hi) (s .index .now) (s .key .now) (s .key .now) (s .at) (s .byte)
-    (sym (c .before .before .count .ensures) ∙ c .enum-told .given .1)
+    let e = sym (c .before .before .count .ensures) ∙ c .enum-told .given .1 in (
+      sequence-bad (widthOf (s .w)) (s .lo) (s .hi) (s .index .now) (s .at) (s .byte) e,
+      sequence-unlaid (widthOf (s .w)) (s .lo) (s .hi) (s .index .now) (s .at) (s .byte) e (s .key .now),
+    )
 
 cast-key : tie.Need-cast-key
 cast-key c = omega (arith, most c, c .before .before .before .before .before .before .fits .hi)
@@ -50,7 +52,10 @@ returns-2 c =
     let k = c .before .before .before .before in
     let s = k .before .before .before .before .before .before .args in
     let n = c .before .before .numbers-at in
-    sequence-read (widthOf (s .w)) (s .lo) (s .hi) (s .index .now) (s .key .now) _ (s .at) (s .byte) (found k) (omega (arith, room k)) (n .result) (n .ensures)
+    let h : s .byte + 1 ≤ length (s .key .now) = omega (arith, room k) in (
+      sequence-read (widthOf (s .w)) (s .lo) (s .hi) (s .index .now) (s .at) (s .byte) (found k) (n .result) (n .ensures .0),
+      sequence-laid (widthOf (s .w)) (s .lo) (s .hi) (s .index .now) (s .at) (s .byte) (found k) (s .key .now) _ h (n .ensures .1),
+    )
 
 pub sequence-at-spec : {M : Type 1} → statement M
 sequence-at-spec =
