@@ -276,18 +276,19 @@ module _ (w : List ℕ) (i : ℕ) where
       let q : i + 2 ≡ suc (suc i) = omega arith in
       rw (drop-cons w i 0 l, drop-cons w (suc i) 0 m, q, add-one i)
 
-alsos-length : (n : ℕ) (part : Option ℕ) (rest : Option (List ℕ)) (x : List ℕ) → ((xs : List ℕ) → rest ≡ some xs → n ≡ 2 * length xs)
+-- one pair more
+pair-length : (n : ℕ) (part : Option ℕ) (rest : Option (List ℕ)) (x : List ℕ) → ((xs : List ℕ) → rest ≡ some xs → n ≡ 2 * length xs)
     → also part rest ≡ some x → n + 2 ≡ 2 * length x
-alsos-length n none rest x h e = never e
-alsos-length n (some y) none x h e = never e
-alsos-length n (some y) (some ys) x h e = let q : y ∷ ys ≡ x = cc in omega (arith, h ys refl, ap length q)
+pair-length n none rest x h e = never e
+pair-length n (some y) none x h e = never e
+pair-length n (some y) (some ys) x h e = let q : y ∷ ys ≡ x = cc in omega (arith, h ys refl, ap length q)
 
 pairs-length : (w x : List ℕ) → hexPairs w ≡ some x → length w ≡ 2 * length x
 unfolding hexPairs
 pairs-length [] x e = let q : [] ≡ x = cc in omega (arith, ap length q)
 pairs-length (a ∷ []) x e = never e
 pairs-length (a ∷ b ∷ cs) x e =
-    omega (arith, alsos-length (length cs) (hexPair (hexDigit a) (hexDigit b)) (hexPairs cs) x (λ xs q. pairs-length cs xs q) e)
+    omega (arith, pair-length (length cs) (hexPair (hexDigit a) (hexDigit b)) (hexPairs cs) x (λ xs q. pairs-length cs xs q) e)
 
 -- two digits an octet, but for `-`
 pub hex-length : (w x : List ℕ) → hexOctets w ≡ some x → 2 ≤ length w → length w ≡ 2 * length x
@@ -361,7 +362,8 @@ number-is x e q = sym q ∙ ap numberOf e
 pub number-bad : {r : Number} {o : Option ℕ} → r ≡ Bad → numberOf r ≡ o → o ≡ none
 number-bad e q = sym q ∙ ap numberOf e
 
--- what was judged to say something says it, and what was not says nothing; a list says something where its rest does behind a part that does
+-- ---- whether something is said
+
 pub said-none : {A : Type 0} (o : Option A) → isSaid o ≡ false → o ≡ none
 said-none none e = refl
 said-none (some x) e = clash refl e
@@ -369,6 +371,7 @@ said-none (some x) e = clash refl e
 pub said-not : {A P : Type 0} {o : Option A} → isSaid o ≡ true → o ≡ none → P
 said-not t n = clash t (ap isSaid n)
 
+-- behind a part that says something, a list does where its rest does
 pub said-also : {part : Option ℕ} {x : ℕ} (rest : Option (List ℕ)) → part ≡ some x → isSaid (also part rest) ≡ isSaid rest
 said-also none e = rw e
 said-also (some xs) e = rw e
