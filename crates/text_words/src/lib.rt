@@ -134,7 +134,7 @@ fn are_pairs(word: &[u8]) -> bool
     true
 }
 
-// The name that a word says in hex, into `out` from `from` on. An octet takes two digits. A word is judged before anything is written.
+// The name that a word says in hex, into `out` from `from` on. An octet takes two digits.
 pub fn hex_octets(word: &[u8], out: &mut [u8], from: usize) -> Filled
     requires { ⌜ from + length (now word) ≤ length (now out) ⌝ }
     ensures { λ r. ⌜ Fills r from (length (now (word .entry))) (now (out .entry)) (now (out .exit)) (hexOctets (now (word .entry))) ⌝ }
@@ -145,6 +145,7 @@ pub fn hex_octets(word: &[u8], out: &mut [u8], from: usize) -> Filled
     if octets::are_same(word, b"-") {
         return Filled::Upto(from);
     }
+    // judged before anything is written
     if !are_pairs(word) {
         return Filled::Malformed;
     }
@@ -186,6 +187,7 @@ pub fn dotted(word: &[u8], out: &mut [u32], from: usize) -> Filled
     if octets::are_same(word, b"-") {
         return Filled::Upto(from);
     }
+    // judged before anything is written
     if !are_numbers(word) {
         return Filled::Malformed;
     }
