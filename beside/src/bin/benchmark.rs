@@ -287,7 +287,7 @@ fn asked() -> Vec<Asked> {
     let p1 = ridge::request(3, 1, &[8, 2]);
     let full = image::write(&full());
     assert_eq!(full.len(), image::LARGEST);
-    // the last principal, group, context and view row decide; or no view row matches
+    // the last principal, group and context decide, and the last view row, the first, or none
     let on_full = |title, variable| Asked { title, image: full.clone(), name: name(b'n', 63), context: name(b'c', 15), level: 3, variable };
     vec![
         Asked {
@@ -299,6 +299,7 @@ fn asked() -> Vec<Asked> {
             variable: p1.variable,
         },
         on_full("full tables, the last view row decides", subtree(95)),
+        on_full("full tables, the first view row decides", subtree(0)),
         on_full("full tables, no view row matches", subtree(96)),
     ]
 }

@@ -40,7 +40,7 @@ cut-drop zero ls v = refl
 cut-drop (suc i) [] v = refl
 cut-drop (suc i) (l ∷ ls) v = cut-drop i ls (drop l v) ∙ ap (cut (drop i ls)) (drop-drop (total (take i ls)) l v)
 
-rest-drop : {w : List ℕ} {x : Extent} {i g o : ℕ} → Walk w x i g o → rest w x i o ≡ drop i (rowsIn w x)
+pub rest-drop : {w : List ℕ} {x : Extent} {i g o : ℕ} → Walk w x i g o → rest w x i o ≡ drop i (rowsIn w x)
 rest-drop {w} {x} {i} {g} {o} k =
     let ls = lengthsIn w x in
     let e : x .rows + total (take i ls) ≡ o = omega (arith, total-parts i ls, k .row-place) in
@@ -93,6 +93,9 @@ module _ {w : List ℕ} {x : Extent} {i g e : ℕ} (k : Walk w x i g e) where
           let n : i - 1 + 1 ≡ i = omega arith in
           let m : e - l + l ≡ e = omega (arith, back-row) in
           rw (n, m) at (rest-slice back-walk l (omega (arith, k .passed)) q)
+
+      pub back-drop : drop (i - 1) (rowsIn w x) ≡ piece w (e - l) e ∷ drop i (rowsIn w x)
+      back-drop = sym (rest-drop back-walk) ∙ back-rest ∙ ap (λ u. piece w (e - l) e ∷ u) (rest-drop k)
 
       pub back-rows : rowsIn w x ≡ take (i - 1) (rowsIn w x) ++ (piece w (e - l) e ∷ rest w x i e)
       back-rows = rest-behind back-walk ∙ ap (λ u. take (i - 1) (rowsIn w x) ++ u) back-rest

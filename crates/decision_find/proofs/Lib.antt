@@ -4,3 +4,4 @@ pub mod Backwards
 pub mod Fronts
 pub mod Best
 pub mod Views
+pub mod OnePass

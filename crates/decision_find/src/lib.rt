@@ -145,7 +145,8 @@ pub fn find_view(w: &[u8], x: Extent, view_name: &[u8]) -> ViewRows
     }
 }
 
-// The row of the view of the name that decides on the variable, among rows that hold all of the view.
+// The row of the view of the name that decides on the variable, among rows that hold all of the view. The walk goes one way and ends at the first row
+// that matches, so no row is compared with the variable twice.
 pub fn find_view_row(w: &[u8], v: ViewRows, view_name: &[u8], variable: &[u8]) -> Found
     requires { ⌜ RowsTo (now w) v ⌝ }
     ensures { λ r. ⌜ Chosen View viewOf (now (w .entry)) r

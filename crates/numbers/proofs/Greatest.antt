@@ -6,10 +6,10 @@ use mathlib.Core.Path.{_≡_, refl, sym, ap, subst, _∙_}
 use mathlib.Core.Bool.{Bool, true, false, not}
 use mathlib.Core.List.{List, [], _∷_, map}
 use mathlib.Core.Option.{none, some}
-use Prim.Native.Nat.{ℕ, _≤_}
+use Prim.Native.Nat.{ℕ, zero, suc, _≤_}
 use native.Mathlib.Omega.{arith}
 use lib.Dec.{eqb}
-use lib.ListN.{length}
+use lib.ListN.{length, drop}
 use borrow.Author.Tests.{eqb-true, eq-eqb}
 use Rattle.numbers.specs.Order.{before}
 use Rattle.numbers.specs.Lists.{keep, every, find, greatest, top, OnSome}
@@ -50,6 +50,11 @@ module _ {A : Type 0} (index : A → List ℕ) where
   ascends-keep p [] a = tt
   ascends-keep p (x ∷ xs) a =
       split (p x) (λ e. rw e (under-keep (index x) p xs (a .0), ascends-keep p xs (a .1))) (λ e. rw e (ascends-keep p xs (a .1)))
+
+  pub ascends-drop : (n : ℕ) (xs : List A) → Ascends xs → Ascends (drop n xs)
+  ascends-drop zero xs a = a
+  ascends-drop (suc n) [] a = tt
+  ascends-drop (suc n) (x ∷ xs) a = ascends-drop n xs (a .1)
 
   -- the test of being before none
   lone-step : (x : A) (ys : List A) (r : A) → before (index x) (index r) ≡ true

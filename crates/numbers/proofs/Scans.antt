@@ -28,6 +28,20 @@ module _ {A : Type 0} where
   latest-append p o [] ys = refl
   latest-append p o (x ∷ xs) ys = latest-append p (cond (p x) (some x) o) xs ys
 
+  -- of what is carried and a list, the list's own latest counts, or else what is carried
+  pub latest-some : (p : A → Bool) (o : Option A) (xs : List A) (y : A) → latest p none xs ≡ some y → latest p o xs ≡ some y
+  latest-some p o [] y e = cc
+  latest-some p o (x ∷ xs) y e = split (p x) (λ q. rw q (rw q at e)) (λ q. rw q (latest-some p o xs y (rw q at e)))
+
+  -- what is carried does not go
+  latest-held : (p : A → Bool) (y : A) (xs : List A) → latest p (some y) xs ≡ none → (u v : Option A) → u ≡ v
+  latest-held p y [] e u v = cc
+  latest-held p y (x ∷ xs) e u v = split (p x) (λ q. latest-held p x xs (rw q at e) u v) (λ q. latest-held p y xs (rw q at e) u v)
+
+  pub latest-none : (p : A → Bool) (o : Option A) (xs : List A) → latest p none xs ≡ none → latest p o xs ≡ o
+  latest-none p o [] e = refl
+  latest-none p o (x ∷ xs) e = split (p x) (λ q. latest-held p x xs (rw q at e) _ _) (λ q. rw q (latest-none p o xs (rw q at e)))
+
   latest-keep : (p : A → Bool) (o : Option A) (xs : List A) → latest p o xs ≡ latest (λ x. true) o (keep p xs)
   latest-keep p o [] = refl
   latest-keep p o (x ∷ xs) = split (p x) (λ e. rw e (latest-keep p (some x) xs)) (λ e. rw e (latest-keep p o xs))
