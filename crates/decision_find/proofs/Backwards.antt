@@ -3,7 +3,7 @@
 -- takes the row before e: its length is no more than e, since the lengths in front of e sum up to it. Of a sound table that row is whole.
 -- Assumes nothing.
 use mathlib.Core.Path.{_≡_, refl, sym, ap, _∙_}
-use mathlib.Core.Bool.{true}
+use mathlib.Core.Bool.{Bool, true}
 use mathlib.Core.List.{List, [], _∷_, _++_}
 use mathlib.Core.Option.{Option, none, some}
 use Prim.Native.Nat.{ℕ, zero, suc, _+_, _-_, _*_, _≤_, _<_}
@@ -48,6 +48,16 @@ rest-drop {w} {x} {i} {g} {o} k =
 
 pub rest-behind : {w : List ℕ} {x : Extent} {i g o : ℕ} → Walk w x i g o → rowsIn w x ≡ take i (rowsIn w x) ++ rest w x i o
 rest-behind {w} {x} {i} k = sym (take-append-drop i (rowsIn w x)) ∙ ap (λ u. take i (rowsIn w x) ++ u) (sym (rest-drop k))
+
+-- the first of them is whole, where the table is sound
+pub row-whole : {t : Table} {w : List ℕ} {x : Extent} → SoundTable t w x → (i : ℕ) {r : List ℕ} {rs : List (List ℕ)}
+    → drop i (rowsIn w x) ≡ r ∷ rs → Whole t r
+row-whole {t} {w} {x} s i e =
+    let p : List ℕ → Bool = λ r. isNone (faults (rowFields t) r) in
+    let rows = rowsIn w x in
+    let a : every p (take i rows ++ drop i rows) ≡ true = ap (every p) (take-append-drop i rows) ∙ every-whole t [] rows (s .rows-sound) in
+    let b = and-right (every p (take i rows)) _ (sym (every-append p (take i rows) _) ∙ a) in
+    is-none _ (and-left _ _ (sym (ap (every p) e) ∙ b))
 
 -- ---- the walk
 
@@ -101,8 +111,4 @@ module _ {w : List ℕ} {x : Extent} {i g e : ℕ} (k : Walk w x i g e) where
       back-rows = rest-behind back-walk ∙ ap (λ u. take (i - 1) (rowsIn w x) ++ u) back-rest
 
       pub back-whole : {t : Table} → SoundTable t w x → Whole t (piece w (e - l) e)
-      back-whole {t} s =
-          let p : List ℕ → _ = λ r. isNone (faults (rowFields t) r) in
-          let a : every p (rowsIn w x) ≡ true = every-whole t [] (rowsIn w x) (s .rows-sound) in
-          let b = sym (every-append p (take (i - 1) (rowsIn w x)) (piece w (e - l) e ∷ rest w x i e)) ∙ sym (ap (every p) back-rows) ∙ a in
-          is-none _ (and-left _ _ (and-right (every p (take (i - 1) (rowsIn w x))) _ b))
+      back-whole s = row-whole s (i - 1) back-drop

@@ -9,29 +9,25 @@ use Prim.Native.Nat.{ℕ, _+_, _-_, _*_, _≤_, _<_}
 use native.Mathlib.Omega.{arith}
 use lib.ListN.{take, drop, take-append-drop}
 use lib.Seq.{drop-drop}
-use Rattle.numbers.specs.Lists.{every, isNone}
 use Rattle.numbers.specs.Scans.{latest}
-use Rattle.numbers.proofs.Bools.{split, and-left, and-right}
-use Rattle.numbers.proofs.Keeps.{every-append}
+use Rattle.numbers.proofs.Bools.{split}
 use Rattle.numbers.proofs.Scans.{latest-append, latest-some, latest-none}
 use Rattle.numbers.proofs.Greatest.{ascends-drop}
 use Rattle.rows.specs.declared.Table.the-variants.{View}
-use Rattle.rows.specs.Fields.{faults}
-use Rattle.rows.specs.Rows.{ViewRow, viewOf, rowFields, indexOf}
+use Rattle.rows.specs.Rows.{ViewRow, viewOf, indexOf}
 use Rattle.image_layout.specs.declared.Extent.{Extent}
 use Rattle.image_layout.specs.Layout.{pair, rowsIn, endOf}
 use Rattle.image_layout.proofs.Walks.{piece, Walk, rest-end}
 use Rattle.image_judge.specs.Faults.{SoundTable}
-use Rattle.image_judge.proofs.Sound.{every-whole, ascends-rows}
+use Rattle.image_judge.proofs.Sound.{ascends-rows}
 use Rattle.decision_steps.specs.Decision.{chosenView}
-use Rattle.decision_steps.specs.Bytes.{Whole}
 use Rattle.decision_steps.proofs.Choices.{chosen-latest-of}
 use Rattle.decision_views.specs.Matching.{matching}
 use Rattle.decision_find.specs.declared.Found.{Found}
 use Rattle.decision_find.specs.declared.Found.the-variants.{Row, Nothing}
 use Rattle.decision_find.specs.Found.{Chosen, rowsOfView}
 use Rattle.decision_find.specs.OnePass.{passed, Carried, NextRow, carry, OnePass, InOnePass}
-use Rattle.decision_find.proofs.Backwards.{is-none, rest-drop, back-start, back-place, back-walk, back-drop}
+use Rattle.decision_find.proofs.Backwards.{row-whole, rest-drop, back-start, back-place, back-walk, back-drop}
 use Rattle.decision_find.proofs.Chosen.{held-none, chosen}
 
 module _ (name variable : List ℕ) {w : List ℕ} {x : Extent} (t : SoundTable View w x) where
@@ -50,14 +46,6 @@ module _ (name variable : List ℕ) {w : List ℕ} {x : Extent} (t : SoundTable 
     abbrev row : List ℕ
     row = take (end - at) (drop at w)
 
-    row-whole : Whole View row
-    row-whole =
-        let p : List ℕ → Bool = λ r. isNone (faults (rowFields View) r) in
-        let a : every p (take (i - 1) (rowsIn w x) ++ drop (i - 1) (rowsIn w x)) ≡ true =
-        ap (every p) (take-append-drop (i - 1) (rowsIn w x)) ∙ every-whole View [] (rowsIn w x) (t .rows-sound) in
-        let b = and-right (every p (take (i - 1) (rowsIn w x))) _ (sym (every-append p (take (i - 1) (rowsIn w x)) _) ∙ a) in
-        is-none _ (and-left _ _ (sym (ap (every p) (n .is)) ∙ b))
-
     latest-next : latest fits none (behind (i - 1)) ≡ latest fits (cond (fits (viewOf row)) (some (viewOf row)) none) (behind i)
     latest-next = ap (λ rs. latest fits none (map viewOf rs)) (n .is)
 
@@ -74,7 +62,7 @@ module _ (name variable : List ℕ) {w : List ℕ} {x : Extent} (t : SoundTable 
         let l : latest fits none (behind i) ≡ none = passed-latest i ∙ sym (k .is .is) in
         let m = latest-next ∙ latest-none fits _ (behind i) l in
         split (fits (viewOf row))
-        (λ q. rw q (record { is = record { lies = n .lies; whole = row-whole; is = sym (rw q at m) ∙ passed-latest (i - 1) } }))
+        (λ q. rw q (record { is = record { lies = n .lies; whole = row-whole t (i - 1) (n .is); is = sym (rw q at m) ∙ passed-latest (i - 1) } }))
         (λ q. rw q (record { is = chosen (held-none View w) (sym (rw q at m) ∙ passed-latest (i - 1)) }))
 
   pass-start : Carried name variable w x (x .count) Nothing
