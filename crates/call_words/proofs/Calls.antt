@@ -1,6 +1,6 @@
 -- Laws of what a line asks for: its word and the fields behind it, and what the slots that hold them say. Assumes nothing.
 use mathlib.Core.Path.{_≡_, refl, sym, ap, _∙_}
-use mathlib.Core.List.{List, [], _∷_}
+use mathlib.Core.List.{List, []}
 use mathlib.Core.Option.{Option, none, some, bind}
 use Prim.Native.Nat.{ℕ, _+_, _≤_, _<_}
 use native.Mathlib.Omega.{arith}
@@ -12,19 +12,18 @@ use Rattle.edit_rules.specs.Edits.{Edit, editOf, callerOf}
 use Rattle.edit_rules.specs.declared.Edited.{Edited}
 use Rattle.edits.specs.Calls.{OwnerEdits, PrincipalEdits}
 use Rattle.edits.specs.Does.{ask, owner, by}
-use Rattle.text_words.specs.Words.{longest, between, words, wordsFrom}
+use Rattle.text_words.specs.Words.{longest, between, wordsFrom}
 use Rattle.text_words.proofs.WordsFrom.{WordAt, from-start}
-use Rattle.line_fields.specs.declared.Kind.{Kind}
 use Rattle.text_rows.specs.declared.Slot.{Slot}
-use Rattle.line_fields.specs.Kinds.{Value, valueAt, partsAt, numberAt, editAt, valuesSaid}
-use Rattle.line_fields.specs.Slots.{side, inParts, kindIn, slotIn, partIn, numberIn, valueIn, Holds, Fit, Whole}
+use Rattle.line_fields.specs.Kinds.{Value, valueAt, valuesSaid}
+use Rattle.line_fields.specs.Slots.{side, inParts, kindIn, slotIn, Holds, Fit, Whole}
 use Rattle.line_fields.specs.Buffers.{Buffers, fieldsInto}
 use Rattle.line_fields.proofs.RequestSlots.{request-held}
 use Rattle.call_words.specs.declared.Verb.{Verb}
 use Rattle.call_words.specs.declared.Verb.the-variants.{Decide, Owner, Principal, Encode, Decode, Image, Unknown}
 use Rattle.call_words.specs.declared.Read.{Read}
 use Rattle.call_words.specs.Calls.{kindsOf, Asked, calls, encodes, decodes, meaning, verbNamed, verbSaid, wordsSaid, lineSaid}
-use Rattle.call_words.specs.Reading.{editIn, askedIn, ReadsCall, lineInto}
+use Rattle.call_words.specs.Reading.{askedIn, ReadsCall, lineInto}
 
 -- no word has more fields than slots
 pub kinds-few : (v : Verb) → length (kindsOf v) ≤ 6

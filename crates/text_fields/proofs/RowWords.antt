@@ -116,13 +116,12 @@ module _ {all : List Field} {line found out : List ℕ} {from at a k : ℕ} wher
 
   -- no field is left
   module _ (y : OnWay all line found out from at [] a k) where
-    pub end-places : Placing k a from at (length found) line (fieldsSaid all (wordsFrom at line))
+    pub end-places : Placing k a from at line (fieldsSaid all (wordsFrom at line))
     unfolding fieldsSaid
     end-places = record {
       of = y .done;
       is = y .makes ∙ ap (λ u. some (said u (wordsFrom a line))) (append-nil (y .done));
       ends = y .ends;
-      inside = omega (arith, y .ends, inside y);
       next-in = y .next-in;
       short = y .short;
     }

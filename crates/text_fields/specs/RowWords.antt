@@ -42,15 +42,14 @@ pub record Roomy (line : List ℕ) (at : ℕ) (out : List ℕ) (from : ℕ) : Ty
   pub at-in : at ≤ suc (length line)
   pub room : from + 4 * suc (length line) ≤ length out + 4 * at
 
--- the bytes that are said end at `end`, of so much room, and the next word begins at `next`
-pub record Placing (end next from at room : ℕ) (line : List ℕ) (s : Option Said) : Type 0 where
+-- the bytes that are said end at `end`, and the next word begins at `next`
+pub record Placing (end next from at : ℕ) (line : List ℕ) (s : Option Said) : Type 0 where
   pub of : List ℕ
   pub is : s ≡ some (said of (wordsFrom next line))
   pub ends : end ≡ from + length of
-  pub inside : end ≤ room
   pub next-in : next ≤ suc (length line)
   pub short : end + 4 * at ≤ from + 4 * next
 
-abbrev pub Places : Placed → (from at room : ℕ) (line : List ℕ) → Option Said → Type 0
-Places (Placed.To end next) from at room line s = Placing end next from at room line s
-Places Placed.Malformed from at room line s = s ≡ none
+abbrev pub Places : Placed → (from at : ℕ) (line : List ℕ) → Option Said → Type 0
+Places (Placed.To end next) from at line s = Placing end next from at line s
+Places Placed.Malformed from at line s = s ≡ none

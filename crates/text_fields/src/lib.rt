@@ -111,7 +111,7 @@ pub enum Placed {
 pub fn fields(t: Table, n: usize, line: &[u8], at: usize, out: &mut [u8], from: usize) -> Placed
     requires fields { ⌜ n ≤ length (rowFields t) ⌝ }
     requires room { ⌜ Roomy (now line) at (now out) from ⌝ }
-    ensures places { λ r. ⌜ Places r from at (length (now (out .entry))) (now (line .entry))
+    ensures places { λ r. ⌜ Places r from at (now (line .entry))
         (fieldsSaid (take n (rowFields t)) (wordsFrom at (now (line .entry)))) ⌝ }
     ensures lays { λ r. ⌜ now (out .exit) ≡ laid from (fieldsFront (take n (rowFields t)) (wordsFrom at (now (line .entry)))) (now (out .entry)) ⌝ }
 {

@@ -77,15 +77,14 @@ module _ (o : Operation) {at : ℕ} {line : List ℕ} {end : ℕ} (w : WordAt at
     pub entry-bad : fieldsSaid (take n (rowFields t)) (wordsFrom (end + 1) line) ≡ none → entrySaid o (wordsFrom at line) ≡ none
     entry-bad q = named-said ∙ ap (entryOf t) q
 
-    pub entry-said : {to next from room : ℕ} → Placing to next from (end + 1) room line (fieldsSaid (take n (rowFields t)) (wordsFrom (end + 1) line))
-        → Entering (record { operation = o; table = t; from = from; end = to }) next o from at room line (entrySaid o (wordsFrom at line))
+    pub entry-said : {to next from : ℕ} → Placing to next from (end + 1) line (fieldsSaid (take n (rowFields t)) (wordsFrom (end + 1) line))
+        → Entering (record { operation = o; table = t; from = from; end = to }) next o from at line (entrySaid o (wordsFrom at line))
     entry-said p = record {
       of = p .of;
       is = named-said ∙ ap (entryOf t) (p .is);
       operation-is = refl;
       begins = refl;
       ends = p .ends;
-      inside = p .inside;
       next-in = p .next-in;
       short = omega (arith, p .short, w .forward);
     }

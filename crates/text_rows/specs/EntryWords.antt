@@ -1,12 +1,11 @@
 -- A table's row or key said in the words of a line: the table's word, and the fields in order; and what the code reads of it. Assumes nothing.
 use mathlib.Core.Path.{_≡_}
-use mathlib.Core.List.{List, [], _∷_, _++_}
+use mathlib.Core.List.{List, [], _∷_}
 use mathlib.Core.Option.{Option, none, some, bind, Option·elim}
 use Prim.Native.Nat.{ℕ, suc, _+_, _*_, _≤_}
 use lib.ListN.{length, take}
 use Rattle.rows.specs.declared.Operation.{Operation}
 use Rattle.rows.specs.declared.Table.{Table}
-use Rattle.rows.specs.Fields.{Field}
 use Rattle.rows.specs.Rows.{rowFields}
 use Rattle.edit_rules.specs.Edits.{fieldsOf}
 use Rattle.text_words.specs.Words.{wordsFrom}
@@ -42,17 +41,16 @@ pub record Counts (n : ℕ) (o : Operation) (t : Table) : Type 0 where
   pub fields-are : take n (rowFields t) ≡ fieldsOf o t
   pub inside : n ≤ length (rowFields t)
 
--- the slot says where the bytes lie that are said, from `from` on and inside so much room; the next word begins at `next`
-pub record Entering (s : Slot) (next : ℕ) (o : Operation) (from at room : ℕ) (line : List ℕ) (e : Option Entry) : Type 0 where
+-- the slot says where the bytes lie that are said, from `from` on; the next word begins at `next`
+pub record Entering (s : Slot) (next : ℕ) (o : Operation) (from at : ℕ) (line : List ℕ) (e : Option Entry) : Type 0 where
   pub of : List ℕ
   pub is : e ≡ some (record { table = s .table; bytes = of; rest = wordsFrom next line })
   pub operation-is : s .operation ≡ o
   pub begins : s .from ≡ from
   pub ends : s .end ≡ from + length of
-  pub inside : s .end ≤ room
   pub next-in : next ≤ suc (length line)
   pub short : s .end + 4 * at ≤ from + 4 * next
 
-abbrev pub Enters : Found → (o : Operation) (from at room : ℕ) (line : List ℕ) → Option Entry → Type 0
-Enters (Found.At s next) o from at room line e = Entering s next o from at room line e
-Enters Found.Malformed o from at room line e = e ≡ none
+abbrev pub Enters : Found → (o : Operation) (from at : ℕ) (line : List ℕ) → Option Entry → Type 0
+Enters (Found.At s next) o from at line e = Entering s next o from at line e
+Enters Found.Malformed o from at line e = e ≡ none

@@ -49,7 +49,7 @@ fn field_count(o: Operation, t: Table) -> usize
 // The row or the key, as the operation has it, that the words from the one that begins at `at` on say, its bytes in `out` from `from` on.
 pub fn entry(o: Operation, line: &[u8], at: usize, out: &mut [u8], from: usize) -> Found
     requires { ⌜ Roomy (now line) at (now out) from ⌝ }
-    ensures enters { λ r. ⌜ Enters r o from at (length (now (out .entry))) (now (line .entry)) (entrySaid o (wordsFrom at (now (line .entry)))) ⌝ }
+    ensures enters { λ r. ⌜ Enters r o from at (now (line .entry)) (entrySaid o (wordsFrom at (now (line .entry)))) ⌝ }
     ensures lays { λ r. ⌜ now (out .exit) ≡ laid from (entryFront o (wordsFrom at (now (line .entry)))) (now (out .entry)) ⌝ }
 {
     let Word::To(end) = text_words::word_at(line, at) else {

@@ -11,7 +11,7 @@ use native.Mathlib.Numerals.{add-one}
 use lib.Dec.{eqb, ltb}
 use lib.ListN.{length, take, drop, set, getD, length-drop, length-append, drop-of-length-le}
 use lib.Seq.{drop-cons, drop-drop, take-length, append-snoc}
-use borrow.Author.Tests.{eq-eqb, ne-eqb, lt-ltb, le-ltb, ltb-true, ltb-false}
+use borrow.Author.Tests.{lt-ltb, le-ltb, ltb-true, ltb-false}
 use Rattle.bytes.specs.Bytes.{slice, indexAfter, indexOf}
 use Rattle.numbers.specs.Laid.{laid}
 use Rattle.numbers.specs.Order.{same}

@@ -1,7 +1,7 @@
 -- `call_words::read_call` meets its contract: the first word names what the line asks for, and the fields behind it are read by its kinds.
 -- Assumes nothing.
-use mathlib.Core.Path.{_≡_, sym, ap, _∙_}
-use Prim.Native.Nat.{_+_, _≤_, _<_}
+use mathlib.Core.Path.{_≡_, ap, _∙_}
+use Prim.Native.Nat.{_+_, _<_}
 use native.Mathlib.Omega.{arith}
 use lib.ListN.{length, take}
 use borrow.Author.Needs.{needs}
@@ -9,7 +9,7 @@ use Rattle.numbers.proofs.Bools.{not-true, not-false}
 use Rattle.text_words.specs.Words.{longest, wordsFrom}
 use Rattle.text_words.proofs.WordsFrom.{WordAt, word-from}
 use Rattle.line_fields.specs.Kinds.{valuesSaid}
-use Rattle.line_fields.specs.Slots.{Kinds, ReadsFields}
+use Rattle.line_fields.specs.Slots.{ReadsFields}
 use Rattle.line_fields.specs.Buffers.{buffers}
 use Rattle.call_words.specs.Calls.{kindsOf}
 use Rattle.call_words.specs.Reading.{lineInto}

@@ -37,7 +37,7 @@ returns-2 c = let e = c .before .before in
     let s = m .before .before .before .before .before .before .args in
     let ws = wordsFrom (s .at) (s .line .now) in (
       rw (edit-named (s .word .now) ws (named m))
-          (entry-finds (m .match .operation) (e .entry .result) (s .from) (s .at) _ (s .line .now) (e .entry .ensures .0)),
+          (entry-finds (m .match .operation) (e .entry .result) (s .from) (s .at) (s .line .now) (e .entry .ensures .0)),
       rw (edit-front (s .word .now) ws (named m)) (e .entry .ensures .1),
     )
 

@@ -1,7 +1,7 @@
 -- `line_fields::field` meets its contract: in each arm the kind is known, and so are its buffer and what it says. Assumes nothing.
 use mathlib.Core.Bool.{true, false}
 use mathlib.Core.List.{List}
-use mathlib.Core.Path.{_≡_, sym, ap, _∙_}
+use mathlib.Core.Path.{sym, ap, _∙_}
 use Prim.Native.Nat.{ℕ, _*_}
 use native.Mathlib.Omega.{arith}
 use lib.ListN.{length}
@@ -11,7 +11,7 @@ use Rattle.text_words.specs.Words.{between, hexOctets, dotted}
 use Rattle.text_words.proofs.WordsFrom.{WordAt, word-missing, word-found}
 use Rattle.line_fields.specs.Kinds.{number, kindSaid}
 use Rattle.line_fields.specs.Buffers.{buffers, kindFront}
-use Rattle.line_fields.proofs.FieldSlots.{bytes-roomy, none-said, none-lays, word-room, behind-roomy, word-finds, word-lays}
+use Rattle.line_fields.proofs.FieldSlots.{bytes-roomy, none-said, none-lays, word-room, behind-roomy, word-read}
 use Rattle.line_fields.proofs.FieldSlots.{entry-finds, edit-finds, edit-lays}
 use Rattle.line_fields.proofs.field.Statement.{statement}
 use Rattle.line_fields.proofs.field.Tie as tie
@@ -64,38 +64,31 @@ unfolding kindSaid kindFront
 returns-2 c = let f = c .before .before .before in
     let k = f .before .before .before .before .before in
     let s = start k .args in
-    rw (f .before .before .enum-told2 .given .1, c .one-word .ensures) (
-      word-finds (found k) number (f .number .result) _ _ (f .number .ensures) (omega arith),
-      ap (λ u. buffers (s .bytes .now) u) (word-lays (found k) number (f .number .result) 1 (s .parts .now) _ (f .number .ensures)),
-    )
+    rw (f .before .before .enum-told2 .given .1, c .one-word .ensures)
+    (word-read (found k) true number (f .number .result) 1 (s .bytes .now) (s .parts .now) _ (f .number .ensures) (omega arith))
 
 returns-3 : tie.Need-returns-3
 unfolding kindSaid kindFront
 returns-3 c = let f = c .before .before .before in
     let k = f .before .before .before .before .before in
     let s = start k .args in
-    rw (f .before .before .enum-told3 .given .1, c .one-word2 .ensures) (
-      word-finds (found k) hexOctets (f .hex-octets .result) _ _ (f .hex-octets .ensures) (omega arith),
-      ap (λ u. buffers u (s .parts .now))
-          (word-lays (found k) hexOctets (f .hex-octets .result) (length (word k)) (s .bytes .now) _ (f .hex-octets .ensures)),
-    )
+    rw (f .before .before .enum-told3 .given .1, c .one-word2 .ensures)
+    (word-read (found k) false hexOctets (f .hex-octets .result) (length (word k)) (s .bytes .now) (s .parts .now) _ (f .hex-octets .ensures) (omega arith))
 
 returns-4 : tie.Need-returns-4
 unfolding kindSaid kindFront
 returns-4 c = let f = c .before .before .before in
     let k = f .before .before .before .before .before in
     let s = start k .args in
-    rw (f .before .before .enum-told4 .given .1, c .one-word3 .ensures) (
-      word-finds (found k) dotted (f .dotted .result) _ _ (f .dotted .ensures) (omega arith),
-      ap (λ u. buffers (s .bytes .now) u) (word-lays (found k) dotted (f .dotted .result) (length (word k)) (s .parts .now) _ (f .dotted .ensures)),
-    )
+    rw (f .before .before .enum-told4 .given .1, c .one-word3 .ensures)
+    (word-read (found k) true dotted (f .dotted .result) (length (word k)) (s .bytes .now) (s .parts .now) _ (f .dotted .ensures) (omega arith))
 
 returns-5 : tie.Need-returns-5
 unfolding kindSaid kindFront
 returns-5 c = let f = c .before .before in
     let s = start (f .before .before .before .before .before) .args in
     rw (f .before .before .enum-told5 .given .1) (
-      entry-finds Remove (f .entry .result) _ _ _ _ (f .entry .ensures .0),
+      entry-finds Remove (f .entry .result) _ _ _ (f .entry .ensures .0),
       ap (λ u. buffers u (s .parts .now)) (f .entry .ensures .1),
     )
 

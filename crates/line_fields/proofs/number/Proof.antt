@@ -1,7 +1,7 @@
 -- `line_fields::number` meets its contract: the number that the word says is put at its place. Assumes nothing.
 use mathlib.Core.List.{_∷_, []}
 use mathlib.Core.Option.{Option·map}
-use mathlib.Core.Path.{_≡_, ap, _∙_}
+use mathlib.Core.Path.{ap}
 use native.Mathlib.Omega.{arith}
 use borrow.Author.Needs.{needs}
 use Rattle.numbers.proofs.Laid.{laid-set}

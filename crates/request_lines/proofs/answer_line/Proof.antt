@@ -1,6 +1,6 @@
 -- `request_lines::answer_line` meets its contract. A line that is too long or does not say each field of a request is malformed; otherwise the
 -- request that its slots hold is answered. Assumes nothing.
-use mathlib.Core.Path.{_≡_, _∙_}
+use mathlib.Core.Path.{_∙_}
 use Prim.Native.Nat.{_<_}
 use native.Mathlib.Omega.{arith}
 use lib.ListN.{length}

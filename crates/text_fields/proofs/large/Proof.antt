@@ -1,5 +1,4 @@
 -- `text_fields::large` meets its contract: the number's four bytes. Assumes nothing.
-use mathlib.Core.Path.{_≡_, ap, _∙_}
 use native.Mathlib.Omega.{arith}
 use borrow.Author.Needs.{needs}
 use Rattle.numbers.specs.BigEndian.{quad, bytes}

@@ -1,5 +1,4 @@
 -- `text_fields::small` meets its contract: the number's byte, where one holds it. Assumes nothing.
-use mathlib.Core.Path.{_≡_, ap, _∙_}
 use Prim.Native.Nat.{_<_}
 use native.Mathlib.Omega.{arith}
 use lib.ListN.{length}

@@ -2,11 +2,9 @@
 -- operation is handed. Assumes nothing.
 use mathlib.Core.Logic.{⊎-elim}
 use mathlib.Core.Option.{some}
-use mathlib.Core.Path.{_≡_, sym, ap, _∙_}
+use mathlib.Core.Path.{_≡_, sym, _∙_}
 use native.Mathlib.Omega.{arith}
-use lib.ListN.{drop}
 use borrow.Author.Needs.{needs}
-use Rattle.numbers.specs.Lists.{first}
 use Rattle.text_words.specs.Words.{between, split, place}
 use Rattle.text_words.proofs.Named.{wordsOf, named-at, named-none}
 use Rattle.text_words.proofs.WordsFrom.{WordAt, word-missing, word-found}
