@@ -3,7 +3,6 @@
 -- most a part for each byte of its fields' counts and numbers and for each part of its sequences: 98 at most, and the instance 110; so 128
 -- are room enough and encoding never fails. Assumes nothing.
 use mathlib.Core.Path.{_≡_, refl, sym, ap, _∙_}
-use mathlib.Core.Bool.{true}
 use mathlib.Core.List.{List, [], _∷_}
 use mathlib.Core.Option.{none}
 use Prim.Native.Nat.{ℕ, _+_, _-_, _≤_}
@@ -17,11 +16,11 @@ use Rattle.answers.specs.declared.Written.the-variants.{Length, Unwritten}
 use Rattle.rows.specs.declared.Table.{Table}
 use Rattle.rows.specs.declared.Table.the-variants.{Context, Mapping, Access, View}
 use Rattle.numbers.specs.BigEndian.{size, Octets}
-use Rattle.rows.specs.Fields.{Field, sequence, integer, fault, taken, value, faults, values, span, rowBytes, legals, indexField, index}
-use Rattle.rows.specs.Rows.{keyFields, rowFields, restFields, indexOf}
+use Rattle.rows.specs.Fields.{Field, sequence, integer, fault, taken, value, faults, values, span, indexField, index}
+use Rattle.rows.specs.Rows.{keyFields, rowFields, indexOf}
 use Rattle.rows.specs.Tables.{Tables}
-use Rattle.rows.proofs.Appends.{row-split}
-use Rattle.rows.proofs.Inverse.{bytes-front, legals-front, faults-made, values-made}
+use Rattle.rows.proofs.Inverse.{values-made}
+use Rattle.rows.proofs.Keys.{front-bytes, front-legal, front-whole}
 use Rattle.numbers.proofs.BigEndian.{length-numbers}
 use Rattle.rows.proofs.Sound.{within-most, sequence-range, faults-first, faults-rest}
 use Rattle.decision_steps.specs.Request.{asked, write}
@@ -36,18 +35,10 @@ use Rattle.edit_rules.proofs.Outcomes.{key-whole}
 -- ---- the key at the front of what is handed
 
 module _ (t : Table) (row : List ℕ) (b : Octets row) (f : faults (rowFields t) row ≡ none) where
-  front-bytes : rowBytes (keyFields t) (values (keyFields t) row) ≡ rowKey t row
-  front-bytes = bytes-front (keyFields t) (restFields t) row b (rw (row-split t) at f)
-
-  front-legal : legals (keyFields t) (values (keyFields t) row) ≡ true
-  front-legal = legals-front (keyFields t) (restFields t) row b (rw (row-split t) at f)
-
-  front-whole : faults (keyFields t) (rowKey t row) ≡ none
-  front-whole = rw (← front-bytes) (faults-made (keyFields t) (values (keyFields t) row) front-legal)
-
   front-index : indexOfEdit (editOf Remove t (rowKey t row)) ≡ indexOfEdit (editOf Put t row)
   unfolding indexOfEdit
-  front-index = ap (index (keyFields t)) (ap (values (keyFields t)) (sym front-bytes) ∙ values-made (keyFields t) (values (keyFields t) row) front-legal)
+  front-index = ap (index (keyFields t)) (ap (values (keyFields t)) (sym (front-bytes t row b f))
+      ∙ values-made (keyFields t) (values (keyFields t) row) (front-legal t row b f))
 
 pub key-part : (t : Table) (bytes : List ℕ) {k : ℕ} → span (keyFields t) bytes ≡ k → take (k - 0) bytes ≡ rowKey t bytes
 key-part t bytes {k} e = let z : k - 0 ≡ span (keyFields t) bytes = omega arith in ap (λ n. take n bytes) z

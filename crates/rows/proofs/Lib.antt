@@ -8,3 +8,4 @@ pub mod Typed
 pub mod Order
 pub mod Bounds
 pub mod Forms
+pub mod Keys

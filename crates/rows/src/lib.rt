@@ -265,12 +265,18 @@ fn whole(row: &[u8], end: usize, key: usize) -> Step
     Step::At(key)
 }
 
+// The key at the front of a row, or by itself, judged: where it ends.
+pub fn judge_front(t: Table, row: &[u8]) -> Step
+    ensures { λ r. ⌜ r ≡ fieldsStep (keyFields t) (now (row .entry)) 0 ⌝ }
+{
+    fields(t, 0, key_len(t), row, 0)
+}
+
 // The key of a table judged, by itself.
 pub fn judge_key(t: Table, key: &[u8]) -> Step
     ensures { λ r. ⌜ r ≡ keyStep t (now (key .entry)) ⌝ }
 {
-    let k = key_len(t);
-    let judged = fields(t, 0, k, key, 0);
+    let judged = judge_front(t, key);
     let Step::At(a) = judged else {
         return judged;
     };
@@ -281,11 +287,11 @@ pub fn judge_key(t: Table, key: &[u8]) -> Step
 pub fn judge(t: Table, row: &[u8]) -> Step
     ensures { λ r. ⌜ r ≡ rowStep t (now (row .entry)) ⌝ }
 {
-    let k = key_len(t);
-    let key = fields(t, 0, k, row, 0);
+    let key = judge_front(t, row);
     let Step::At(a) = key else {
         return key;
     };
+    let k = key_len(t);
     let n = row_len(t);
     let rest = fields(t, k, n, row, a);
     let Step::At(b) = rest else {
