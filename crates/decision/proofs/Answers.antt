@@ -22,9 +22,9 @@ use Rattle.rows.proofs.Sound.{within-most}
 use Rattle.image_layout.specs.declared.Layout.{Layout}
 use Rattle.image_judge.specs.declared.Surveyed.the-variants.{Laid, Bad}
 use Rattle.image_layout.specs.Layout.{layoutOf}
-use Rattle.image_judge.specs.Faults.{SoundLayout, tablesAt, surveyed}
+use Rattle.image_judge.specs.Faults.{tablesAt, surveyed}
 use Rattle.image.specs.Store.{storeFault, held}
-use Rattle.image.proofs.Surveys.{sound-layout, store-laid, store-bad}
+use Rattle.image.proofs.Surveys.{store-held, store-unheld}
 use Rattle.decision_steps.specs.Request.{Request, legalRequest, longestName, noAuthNoPriv, authPriv, read, notify, mostParts}
 use Rattle.decision_steps.specs.Decision.{answerOn, answer}
 use Rattle.decision_steps.specs.Bytes.{identifier}
@@ -54,19 +54,13 @@ module _ (parts out rest : List ℕ) (e : out ≡ bytesOf quad parts) where
   pub written-identifier : ((i : ℕ) → getD parts i 0 < 4294967296) → identifier (take (4 * length parts - 0) (out ++ rest)) ≡ parts
   written-identifier h = ap identifier (take-at out rest (4 * length parts - 0) (omega (arith, length-written)) ∙ e) ∙ identifier-bytesOf parts h
 
-module _ (w : List ℕ) where
-  pub layout-sound : {l : Layout} → Laid l ≡ surveyed (storeFault w) (layoutOf w) → SoundLayout w l
-  layout-sound e = let s = store-laid w e in rw (s .1) (sound-layout w (s .0))
+module _ (w : List ℕ) (q : Request) where
+  -- the number is that of the answer
+  pub decides : {r : Answer} → r ≡ answer (held w) q → Decides q w r
+  decides e = record { answer-is = e; number-is = ap answerNumber e }
 
-  module _ (q : Request) where
-    -- the number is that of the answer
-    pub decides : {r : Answer} → r ≡ answer (held w) q → Decides q w r
-    decides e = record { answer-is = e; number-is = ap answerNumber e }
+  pub answer-unsound : {f : Fault} → Bad f ≡ surveyed (storeFault w) (layoutOf w) → Decides q w (Faulty NotSound)
+  answer-unsound e = decides (sym (rw (store-unheld w e)))
 
-    pub answer-unsound : {f : Fault} → Bad f ≡ surveyed (storeFault w) (layoutOf w) → Decides q w (Faulty NotSound)
-    unfolding held
-    answer-unsound e = decides (sym (rw (store-bad w e)))
-
-    pub answer-laid : {r : Answer} {l : Layout} → r ≡ answerOn (tablesAt w l) q → Laid l ≡ surveyed (storeFault w) (layoutOf w) → Decides q w r
-    unfolding held
-    answer-laid a e = decides (a ∙ sym (rw (store-laid w e .0, store-laid w e .1)))
+  pub answer-laid : {r : Answer} {l : Layout} → r ≡ answerOn (tablesAt w l) q → Laid l ≡ surveyed (storeFault w) (layoutOf w) → Decides q w r
+  answer-laid a e = decides (a ∙ sym (rw (store-held w e)))

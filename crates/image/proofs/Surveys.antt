@@ -1,7 +1,7 @@
 -- An image or a store surveyed: its counts read (`Counted`), each test settles what the definition answers, and past the tests
 -- the answer is that of the rows. A store that has its length is sound exactly where nothing is wrong with the image at its front. What is
 -- sound has passed each test, so that its tables lie within it and are sound. Assumes nothing.
-use mathlib.Core.Path.{_≡_, refl, sym, _∙_}
+use mathlib.Core.Path.{_≡_, refl, sym, ap, _∙_}
 use mathlib.Core.Bool.{Bool, true, false, cond, _&&_}
 use mathlib.Core.List.{List}
 use mathlib.Core.Option.{Option, none, some}
@@ -11,19 +11,20 @@ use lib.Dec.{eqb, leb, ltb}
 use lib.ListN.{length}
 use borrow.Author.Tests.{lt-ltb, le-ltb, lt-leb, leb-true, eq-eqb, ne-eqb, eqb-true}
 use Rattle.answers.specs.declared.Fault.{Fault}
-use Rattle.answers.specs.declared.Fault.the-variants.{NotSound, Torn, TableFull}
+use Rattle.answers.specs.declared.Fault.the-variants.{NotSound, OutOfRange, Torn, TableFull}
 use Rattle.numbers.specs.Lists.{isNone}
 use Rattle.numbers.proofs.Bools.{and-left, and-right}
+use Rattle.rows.specs.Fields.{orElse}
 use Rattle.rows.proofs.Sound.{cond-none}
 use Rattle.image_layout.specs.declared.Layout.{Layout}
 use Rattle.image_layout.specs.Layout.{count, imageLength, imageEnd, withinLimits, header, laidOut, layoutOf}
 use Rattle.image_layout.proofs.Layouts.{laid-within}
 use Rattle.image_judge.specs.declared.Surveyed.{Surveyed}
 use Rattle.image_judge.specs.declared.Surveyed.the-variants.{Laid, Bad}
-use Rattle.image_judge.specs.Faults.{rowsFault, SoundLayout, surveyed}
+use Rattle.image_judge.specs.Faults.{rowsFault, SoundLayout, surveyed, tablesAt}
 use Rattle.image_judge.proofs.Tables.{sound-tables}
 use Rattle.image.specs.Image.{sizedFault, frontFault, imageFault, fits}
-use Rattle.image.specs.Store.{room, soundRows, isSound, storeFault, soundly}
+use Rattle.image.specs.Store.{room, soundRows, isSound, storeFault, callFault, held, soundly}
 
 -- ---- answers
 
@@ -179,3 +180,46 @@ store-bad w {f} e = unsound-some (isSound w) f (bad-some _ _ e)
 
 pub store-sound-layout : (w : List ℕ) {l : Layout} → Laid l ≡ surveyed (storeFault w) (layoutOf w) → SoundLayout w l
 store-sound-layout w e = let p = store-laid w e in rw (p .1) (sound-layout w (p .0))
+
+-- the tables held, and none where the store is not sound
+pub store-held : (w : List ℕ) {l : Layout} → Laid l ≡ surveyed (storeFault w) (layoutOf w) → held w ≡ some (tablesAt w l)
+unfolding held
+store-held w e = rw (store-laid w e .0, store-laid w e .1)
+
+pub store-unheld : (w : List ℕ) {f : Fault} → Bad f ≡ surveyed (storeFault w) (layoutOf w) → held w ≡ none
+unfolding held
+store-unheld w e = rw (store-bad w e)
+
+-- ---- for a call with fields to judge
+
+module _ (w : List ℕ) {l : Layout} (e : Laid l ≡ surveyed (storeFault w) (layoutOf w)) where
+  pub call-legal : {legal : Bool} → legal ≡ true → surveyed (storeFault w) (layoutOf w) ≡ surveyed (callFault w legal) (layoutOf w)
+  unfolding callFault
+  call-legal q = rw (laid-none (storeFault w) (layoutOf w) e .0, q)
+
+  pub call-illegal : {legal : Bool} → legal ≡ false → Bad OutOfRange ≡ surveyed (callFault w legal) (layoutOf w)
+  unfolding callFault
+  call-illegal q = sym (rw (laid-none (storeFault w) (layoutOf w) e .0, q))
+
+pub call-unsound : (w : List ℕ) (legal : Bool) {f : Fault} → Bad f ≡ surveyed (storeFault w) (layoutOf w) → Bad f ≡ surveyed (callFault w legal) (layoutOf w)
+unfolding callFault
+call-unsound w legal e = sym (rw (bad-some (storeFault w) (layoutOf w) e))
+
+-- what it answered, read back: past both, the fields are in range and the tables are held; else the store is not sound, or a field is out of range
+or-none : (o : Option Fault) (legal : Bool) → orElse o (cond legal none (some OutOfRange)) ≡ none → (o ≡ none) × (legal ≡ true)
+or-none none true e = (refl, refl)
+or-none none false e = (cc, cc)
+or-none (some f) legal e = (cc, cc)
+
+pub record Called (w : List ℕ) (legal : Bool) (l : Layout) : Type 0 where
+  pub in-range : legal ≡ true
+  pub sound : SoundLayout w l
+  pub holds : held w ≡ some (tablesAt w l)
+
+pub call-laid : (w : List ℕ) (legal : Bool) {l : Layout} → Laid l ≡ surveyed (callFault w legal) (layoutOf w) → Called w legal l
+unfolding callFault
+call-laid w legal {l} e =
+    let p = laid-none (callFault w legal) (layoutOf w) e in
+    let q = or-none (storeFault w) legal (p .0) in
+    let s : Laid l ≡ surveyed (storeFault w) (layoutOf w) = rw (q .0) (ap Laid (p .1)) in
+    record { in-range = q .1; sound = store-sound-layout w s; holds = store-held w s }

@@ -1,14 +1,15 @@
 -- A store: room for the largest image, with an image at its front; what lies behind the image is unused room (document 01, "sound").
 -- Assumes nothing.
-use mathlib.Core.Bool.{Bool, true, false, cond, _&&_}
+use mathlib.Core.Bool.{Bool, cond, _&&_}
 use mathlib.Core.List.{List}
 use mathlib.Core.Option.{Option, none, some}
 use Prim.Native.Nat.{ℕ, _+_}
 use lib.Dec.{eqb, leb}
 use lib.ListN.{length}
 use Rattle.answers.specs.declared.Fault.{Fault}
-use Rattle.answers.specs.declared.Fault.the-variants.{NotSound}
+use Rattle.answers.specs.declared.Fault.the-variants.{NotSound, OutOfRange}
 use Rattle.numbers.specs.Lists.{isNone}
+use Rattle.rows.specs.Fields.{orElse}
 use Rattle.rows.specs.Tables.{Tables}
 use Rattle.image_judge.specs.declared.Surveyed.{Surveyed}
 use Rattle.image_judge.specs.declared.Surveyed.the-variants.{Laid, Bad}
@@ -30,6 +31,10 @@ isSound w = eqb (length w) room && soundRows w (count 0 w) (count 1 w) (count 2 
 -- what every call but image reading answers first
 unfoldable pub storeFault : List ℕ → Option Fault
 storeFault w = cond (isSound w) none (some NotSound)
+
+-- and then 7, where a call has fields to judge and one is out of its range
+unfoldable pub callFault : List ℕ → Bool → Option Fault
+callFault w legal = orElse (storeFault w) (cond legal none (some OutOfRange))
 
 -- the tables that a sound store holds
 unfoldable pub held : List ℕ → Option Tables

@@ -10,7 +10,7 @@ ghost use mathlib.Core.Path.{_≡_};
 ghost use Rattle.image_layout.specs.Layout.{layoutOf, withinLimits};
 ghost use Rattle.image_judge.specs.Faults.{surveyed};
 ghost use Rattle.image.specs.Image.{fits, frontFault, imageFault};
-ghost use Rattle.image.specs.Store.{storeFault, soundly};
+ghost use Rattle.image.specs.Store.{storeFault, callFault, soundly};
 
 // The bytes of a store: those of the largest image, whose row lengths and rows take all but the header.
 pub const ROOM: usize = HEADER + 46448;
@@ -81,4 +81,18 @@ pub fn survey_store(w: &[u8]) -> Surveyed
         return Surveyed::Bad(Fault::NotSound);
     }
     sound_rows(survey(w, false))
+}
+
+// The same for a call whose fields are in range or not: 7 comes behind 6.
+pub fn survey_call(w: &[u8], legal: bool) -> Surveyed
+    ensures { λ r. ⌜ r ≡ surveyed (callFault (now (w .entry)) legal) (layoutOf (now (w .entry))) ⌝ }
+{
+    let surveyed = survey_store(w);
+    let Surveyed::Laid(_) = surveyed else {
+        return surveyed;
+    };
+    if legal {
+        return surveyed;
+    }
+    Surveyed::Bad(Fault::OutOfRange)
 }

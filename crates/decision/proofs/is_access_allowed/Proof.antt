@@ -6,8 +6,9 @@ use Rattle.image_judge.specs.declared.Surveyed.the-variants.{Laid}
 use Rattle.image_layout.specs.Layout.{layoutOf}
 use Rattle.image_judge.specs.Faults.{surveyed}
 use Rattle.image.specs.Store.{storeFault}
+use Rattle.image.proofs.Surveys.{store-sound-layout}
 use Rattle.decision_steps.specs.Request.{Request, asked}
-use Rattle.decision.proofs.Answers.{layout-sound, answer-unsound, answer-laid}
+use Rattle.decision.proofs.Answers.{answer-unsound, answer-laid}
 use Rattle.decision.proofs.is_access_allowed.Statement.{statement}
 use Rattle.decision.proofs.is_access_allowed.Tie as tie
 
@@ -32,7 +33,7 @@ returns c =
     answer-unsound (s .args .store .now) (request s) (sym (c .enum-told .given .1) ∙ f .survey-store .ensures)
 
 answer-request-requires : tie.Need-answer-request-requires
-answer-request-requires c κs = layout-sound _ (laid c)
+answer-request-requires c κs = store-sound-layout _ (laid c)
 
 returns-2 : tie.Need-returns-2
 returns-2 c =

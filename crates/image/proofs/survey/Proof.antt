@@ -2,14 +2,13 @@
 -- (`Surveys`): fewer bytes than the header, a count above its limit, a length that does not fit; past the tests the rows answer.
 -- Counts within their limits are so few rows that their lengths, of two bytes each, add up to no great number. Assumes nothing.
 use mathlib.Core.Path.{_≡_, sym, ap, _∙_}
-use mathlib.Core.Bool.{Bool, true, false}
+use mathlib.Core.Bool.{Bool, true}
 use mathlib.Core.List.{List}
 use Prim.Native.Nat.{ℕ, _+_, _*_, _≤_}
 use native.Mathlib.Omega.{arith}
 use lib.ListN.{length, drop}
 use borrow.Author.Needs.{needs}
 use borrow.Author.Tests.{not-true, not-false}
-use Rattle.numbers.specs.BigEndian.{Octets}
 use Rattle.numbers.proofs.BigEndian.{octets-drop}
 use Rattle.image_layout.specs.Layout.{pairs, total, header, imageLength, withinLimits, mostRows, mostPair}
 use Rattle.image_layout.proofs.Walks.{total-most}
