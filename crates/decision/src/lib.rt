@@ -19,19 +19,19 @@ ghost use Rattle.decision.specs.Decides.{Decides};
 
 // The ranges of a request: the levels from noAuthNoPriv to authPriv, the view types from read to notify, a name's octets, and a variable's parts and bytes.
 
-const NO_AUTH_NO_PRIV: u32 = 1;
+pub const NO_AUTH_NO_PRIV: u32 = 1;
 
-const AUTH_PRIV: u32 = 3;
+pub const AUTH_PRIV: u32 = 3;
 
 const READ: u32 = 1;
 
 const NOTIFY: u32 = 3;
 
-const LONGEST_NAME: usize = 32;
+pub const LONGEST_NAME: usize = 32;
 
-const MOST_PARTS: usize = 128;
+pub const MOST_PARTS: usize = 128;
 
-const MOST_BYTES: usize = 512;
+pub const MOST_BYTES: usize = 512;
 
 // ---- the decision by its two parts
 

@@ -3,6 +3,9 @@ use answers::Cause;
 use answers::Decision;
 use answers::Fault;
 use answers::Written;
+use decision::AUTH_PRIV;
+use decision::LONGEST_NAME;
+use decision::NO_AUTH_NO_PRIV;
 use image_layout::Layout;
 use rows::MODEL_MAX;
 use rows::Operation;
@@ -93,12 +96,6 @@ pub fn may_change(w: &[u8], c: Operation, p: Place, bytes: &[u8]) -> bool
 }
 
 // ---- the rights of a principal
-
-const LONGEST_NAME: usize = 32;
-
-const NO_AUTH_NO_PRIV: u32 = 1;
-
-const AUTH_PRIV: u32 = 3;
 
 const WRITE: u32 = 2;
 
