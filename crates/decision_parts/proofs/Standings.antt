@@ -61,7 +61,7 @@ over-some [] h = absurd (h refl)
 over-some (r ∷ rs) h = refl
 
 -- a name that is not empty names a view
-view-named : (name : List ℕ) (rs : List ViewRow) → (length name ≡ 0 → ⊥) → keep (inView name) rs ≡ viewRows name rs
+pub view-named : (name : List ℕ) (rs : List ViewRow) → (length name ≡ 0 → ⊥) → keep (inView name) rs ≡ viewRows name rs
 view-named [] rs h = absurd (h refl)
 view-named (x ∷ name) rs h = refl
 

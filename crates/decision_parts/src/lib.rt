@@ -4,6 +4,7 @@ use answers::Cause;
 use answers::Decision;
 use decision_find::Found;
 use decision_find::ViewRows;
+use decision_views::INCLUDED;
 use image_layout::Extent;
 use image_layout::Layout;
 ghost use mathlib.Core.Path.{_≡_};
@@ -180,7 +181,7 @@ pub fn decide_in(w: &[u8], v: NamedView, variable: &[u8]) -> Decision
     let Found::Row(at, end) = row else {
         return Decision::Refused(Cause::NotInView);
     };
-    if decision_views::includes(&w[at..end]) {
+    if decision_views::family_type(&w[at..end]) == INCLUDED {
         return Decision::Allowed;
     }
     Decision::Refused(Cause::NotInView)

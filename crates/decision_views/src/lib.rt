@@ -1,16 +1,15 @@
 // A view row beside a variable: RFC 3415, section 3.2, step 5, on the row's bytes where they lie.
 ghost use mathlib.Core.Path.{_≡_};
 ghost use Prim.Native.Nat.{_%_};
-ghost use lib.Dec.{eqb};
 ghost use lib.ListN.{length};
 ghost use Rattle.rows.specs.declared.Table.the-variants.{View};
 ghost use Rattle.rows.specs.Rows.{viewOf};
-ghost use Rattle.decision_steps.specs.Decision.{inView, maskBit, agrees, included};
+ghost use Rattle.decision_steps.specs.Decision.{inView, maskBit, agrees};
 ghost use Rattle.decision_steps.specs.Bytes.{Whole, identifier};
 ghost use Rattle.decision_views.specs.Matching.{matching};
 
-// A view row's type.
-const INCLUDED: u8 = 1;
+// A view row's type; the other is excluded.
+pub const INCLUDED: u8 = 1;
 
 // Bit `i` of the mask, the highest bit of the first octet first; a missing bit is 1.
 fn mask_bit(mask: &[u8], i: usize) -> bool
@@ -83,11 +82,11 @@ pub fn is_matching(row: &[u8], view_name: &[u8], variable: &[u8]) -> bool
     is_in_view(row, view_name)
 }
 
-// Whether a view row includes: its type is the last octet but two.
-pub fn includes(row: &[u8]) -> bool
+// A view row's type: the last octet but two.
+pub fn family_type(row: &[u8]) -> u8
     requires { ⌜ Whole View (now row) ⌝ }
-    ensures { λ r. ⌜ r ≡ eqb (viewOf (now (row .entry)) .familyType) included ⌝ }
+    ensures { λ r. ⌜ r ≡ viewOf (now (row .entry)) .familyType ⌝ }
 {
     let at = row.len() - 3;
-    row[at] == INCLUDED
+    row[at]
 }

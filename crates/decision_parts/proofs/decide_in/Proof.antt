@@ -3,6 +3,7 @@
 use mathlib.Core.Path.{_≡_, sym, ap, _∙_}
 use mathlib.Core.Option.{Option}
 use native.Mathlib.Omega.{arith}
+use borrow.Author.Tests.{eq-eqb, ne-eqb}
 use borrow.Author.Needs.{needs}
 use Rattle.answers.specs.declared.Cause.the-variants.{NotInView}
 use Rattle.numbers.proofs.Bools.{cond-true, cond-false}
@@ -34,21 +35,21 @@ returns c =
     let f = c .before .before in
     by-choice (start f) (no-row (f .deciding-row .ensures) (c .enum-told .given .1))
 
-includes-requires : tie.Need-includes-requires
-includes-requires c κs = row (c .before) .whole
+family-type-requires : tie.Need-family-type-requires
+family-type-requires c κs = row (c .before) .whole
 
 returns-2 : tie.Need-returns-2
 returns-2 c =
     let k = c .before .before .before in
-    sym (cond-true _ _ (sym (c .before .includes .ensures) ∙ c .if1 .taken)) ∙ by-choice (start (k .before .before .before)) (row k .is)
+    sym (cond-true _ _ (eq-eqb _ _ (sym (c .before .family-type .ensures) ∙ c .if1 .taken))) ∙ by-choice (start (k .before .before .before)) (row k .is)
 
 returns-3 : tie.Need-returns-3
 returns-3 c =
     let k = c .before .before .before in
-    sym (cond-false _ _ (sym (c .before .includes .ensures) ∙ c .if1 .left)) ∙ by-choice (start (k .before .before .before)) (row k .is)
+    sym (cond-false _ _ (ne-eqb _ _ (λ e. c .if1 .left (c .before .family-type .ensures ∙ e)))) ∙ by-choice (start (k .before .before .before)) (row k .is)
 
 pub decide-in-spec : {M : Type 1} → statement M
 decide-in-spec =
     tie.close
     (tie.spec (λ c κs. search needs) (λ c. search needs) (λ c. search needs) returns (λ c. omega (arith, row c .lies .starts))
-    (λ c. row c .lies .starts) (λ c. row c .lies .ends) includes-requires returns-2 returns-3)
+    (λ c. row c .lies .starts) (λ c. row c .lies .ends) family-type-requires returns-2 returns-3)
