@@ -1,3 +1,4 @@
 -- The theorems of specs/.
 pub mod Ridge
 pub mod Examples
+pub mod Matches

@@ -27,7 +27,7 @@ pub data Example : Type 0 where
   isImage : Tables → List ℕ → Example
 
 -- below 1.3.6.1.2.1.2.2.1
-abbrev below : List ℕ → List ℕ
+abbrev pub below : List ℕ → List ℕ
 below parts = 1 ∷ 3 ∷ 6 ∷ 1 ∷ 2 ∷ 1 ∷ 2 ∷ 2 ∷ 1 ∷ parts
 
 -- security name, level, view type, context, the variable's last parts, the answer

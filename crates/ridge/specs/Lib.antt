@@ -1,2 +1,3 @@
 pub mod Ridge
 pub mod Examples
+pub mod Matches

@@ -4,7 +4,7 @@ use mathlib.Core.Path.{_≡_}
 use mathlib.Core.List.{List, [], _∷_}
 use mathlib.Core.Option.{none}
 use Prim.Native.Nat.{ℕ}
-use Rattle.rows.specs.Rows.{AccessRow}
+use Rattle.rows.specs.Rows.{AccessRow, ViewRow}
 use Rattle.rows.specs.Tables.{Tables}
 use Rattle.image_judge.specs.Faults.{tablesIn}
 use Rattle.image.specs.Image.{imageFault}
@@ -43,7 +43,7 @@ gone = 103 ∷ 111 ∷ 110 ∷ 101 ∷ []
 
 -- ---- rows
 
-abbrev rowA : AccessRow
+abbrev pub rowA : AccessRow
 rowA = record {
   groupName = leads;
   contextPrefix = [];
@@ -57,7 +57,7 @@ rowA = record {
   status = 1;
 }
 
-abbrev rowB : AccessRow
+abbrev pub rowB : AccessRow
 rowB = record {
   groupName = leads;
   contextPrefix = ridge;
@@ -71,6 +71,26 @@ rowB = record {
   status = 1;
 }
 
+abbrev viewRow : (name subtree mask : List ℕ) → ℕ → ViewRow
+viewRow name subtree mask type = record {
+  viewName = name;
+  subtree = subtree;
+  mask = mask;
+  familyType = type;
+  storageType = 3;
+  status = 1;
+}
+
+abbrev pub rowAll : ViewRow
+rowAll = viewRow all (1 ∷ 3 ∷ 6 ∷ 1 ∷ []) [] 1
+
+-- the rows of "base"
+abbrev pub rowIncluded : ViewRow
+rowIncluded = viewRow base (1 ∷ 3 ∷ 6 ∷ 1 ∷ 2 ∷ 1 ∷ 2 ∷ 2 ∷ 1 ∷ 0 ∷ 2 ∷ []) (255 ∷ 160 ∷ []) 1
+
+abbrev pub rowExcluded : ViewRow
+rowExcluded = viewRow base (1 ∷ 3 ∷ 6 ∷ 1 ∷ 2 ∷ 1 ∷ 2 ∷ 2 ∷ 1 ∷ 7 ∷ 0 ∷ []) (255 ∷ 192 ∷ []) 2
+
 abbrev pub ridgeTables : Tables
 ridgeTables = record {
   vacmContextTable = record { contextName = [] } ∷ record { contextName = ridge1 } ∷ [];
@@ -79,25 +99,7 @@ ridgeTables = record {
       ∷ record { securityModel = 3; securityName = cal; groupName = train; storageType = 3; status = 1 }
       ∷ [];
   vacmAccessTable = rowA ∷ rowB ∷ [];
-  vacmViewTreeFamilyTable =
-      record { viewName = all; subtree = 1 ∷ 3 ∷ 6 ∷ 1 ∷ []; mask = []; familyType = 1; storageType = 3; status = 1 }
-      ∷ record {
-        viewName = base;
-        subtree = 1 ∷ 3 ∷ 6 ∷ 1 ∷ 2 ∷ 1 ∷ 2 ∷ 2 ∷ 1 ∷ 0 ∷ 2 ∷ [];
-        mask = 255 ∷ 160 ∷ [];
-        familyType = 1;
-        storageType = 3;
-        status = 1;
-      }
-      ∷ record {
-        viewName = base;
-        subtree = 1 ∷ 3 ∷ 6 ∷ 1 ∷ 2 ∷ 1 ∷ 2 ∷ 2 ∷ 1 ∷ 7 ∷ 0 ∷ [];
-        mask = 255 ∷ 192 ∷ [];
-        familyType = 2;
-        storageType = 3;
-        status = 1;
-      }
-      ∷ [];
+  vacmViewTreeFamilyTable = rowAll ∷ rowIncluded ∷ rowExcluded ∷ [];
 }
 
 -- ---- bytes: the image that ships, examples/ridge/tables.bin
