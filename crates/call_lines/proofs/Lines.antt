@@ -9,7 +9,7 @@ use lib.ListN.{length, length-append}
 use Rattle.text_values.specs.Texts.{decimalText, Puts}
 use Rattle.text_values.proofs.Digits.{length-decimal}
 use Rattle.text_values.proofs.Puts.{Onward, start, step, last, kept}
-use Rattle.call_words.specs.Calls.{Asked}
+use Rattle.call_verbs.specs.Calls.{Asked}
 use Rattle.call_answers.specs.Answers.{answerRoom, Room}
 use Rattle.call_lines.specs.Plays.{lineRoom, lineText, PutsPlay, PutsLine}
 

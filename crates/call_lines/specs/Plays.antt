@@ -7,13 +7,13 @@ use Prim.Native.Nat.{ℕ, _+_, _≤_}
 use lib.ListN.{length}
 use Rattle.answers.specs.declared.Fault.the-variants.{OutOfRange}
 use Rattle.image.specs.Store.{held}
+use Rattle.decision_match.specs.Matches.{viewChoice, accessChoice}
 use Rattle.instance_decode.specs.Decoding.{readInstance}
 use Rattle.edits.specs.Does.{Call, Reply, replyNumber, Does}
 use Rattle.text_values.specs.Texts.{decimalText, Puts}
-use Rattle.text_rows.specs.declared.Slot.{Slot}
-use Rattle.line_fields.specs.Slots.{slotIn, partIn, numberIn}
-use Rattle.call_words.specs.Calls.{Asked, calls, encodes, decodes, images}
+use Rattle.call_verbs.specs.Calls.{Asked, calls, encodes, decodes, images, matchesView, matchesAccess}
 use Rattle.call_answers.specs.Answers.{faultText, instanceText, decodedText, imageTextOf, answerRoom, Told}
+use Rattle.call_matches.specs.Texts.{viewMatchText, accessMatchText}
 
 -- ---- a line played
 
@@ -34,12 +34,11 @@ Plays (some (calls c)) found after text = CallTells c found after text
 Plays (some (encodes t column key)) found after text = Tells (instanceText t column key) found after text
 Plays (some (decodes oid)) found after text = Tells (decodedText (readInstance oid)) found after text
 Plays (some images) found after text = Tells (imageTextOf (held found)) found after text
+Plays (some (matchesView name variable)) found after text = Tells (viewMatchText (viewChoice (held found) name variable)) found after text
+Plays (some (matchesAccess group context model level)) found after text =
+    Tells (accessMatchText (accessChoice (held found) group context model level)) found after text
 
 -- ---- how the code plays it
-
--- the instance of the column and the key that slots hold, told
-abbrev pub instanceIn : List Slot → (bytes numbers : List ℕ) → List ℕ
-instanceIn ss bytes numbers = instanceText (slotIn ss 1 .table) (numberIn (slotIn ss 0) numbers) (partIn (slotIn ss 1) bytes)
 
 -- the call's answer is put into the buffer
 pub record PutsPlay (call : Option Asked) (found after : List ℕ) (at : ℕ) (w out : List ℕ) (r : ℕ) : Type 0 where

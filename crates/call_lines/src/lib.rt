@@ -1,42 +1,22 @@
 // The call that a line says, played on a store, and its answer told. The program `trycalls` plays lists of calls so.
 use answers::Fault;
 use call_answers::ANSWER_ROOM;
-use call_words::Verb;
+use call_verbs::Verb;
 use line_fields::LINE_ROOM;
 use line_fields::MOST_FIELDS;
 use text_rows::Slot;
-ghost use mathlib.Core.Path.{_≡_};
 ghost use Prim.Native.Nat.{_≤_};
 ghost use lib.ListN.{length};
 ghost use Rattle.line_fields.specs.Slots.{Fit};
-ghost use Rattle.call_words.specs.declared.Verb.the-variants.{Encode};
-ghost use Rattle.call_words.specs.Calls.{kindsOf, lineSaid};
-ghost use Rattle.call_words.specs.Reading.{askedIn};
-ghost use Rattle.call_answers.specs.Answers.{Room, Told};
-ghost use Rattle.call_lines.specs.Plays.{instanceIn, lineRoom, PutsPlay, PutsLine};
+ghost use Rattle.call_verbs.specs.Calls.{kindsOf, lineSaid};
+ghost use Rattle.call_verbs.specs.CallSlots.{askedIn};
+ghost use Rattle.call_answers.specs.Answers.{Room};
+ghost use Rattle.call_lines.specs.Plays.{lineRoom, PutsPlay, PutsLine};
 
 // Room for what is told of a line: its number of 20 digits at most, a space, the answer, a newline.
 pub const TOLD_ROOM: usize = ANSWER_ROOM + 22;
 
 // ---- calls
-
-// Tells the instance of the column and the key that slots hold.
-fn encode(
-    slots: [Slot; MOST_FIELDS],
-    bytes: &[u8],
-    parts: &[u32],
-    out: &mut [u8],
-    at: usize,
-) -> usize
-    requires slots { ⌜ Fit slots (kindsOf Encode) (now bytes) (now parts) ⌝ }
-    requires room { ⌜ Room at (now out) ⌝ }
-    ensures { λ r. ⌜ Told (instanceIn slots (now (bytes .entry)) (now (parts .entry))) at (now (out .entry)) (now (out .exit)) r ⌝ }
-{
-    let key = slots[1];
-    let t = key.table;
-    let column = line_fields::number_in(parts, slots[0]);
-    call_answers::tell_encoded(out, at, t, column, line_fields::octets_in(bytes, key))
-}
 
 // Plays what slots hold on a store.
 fn play_call(
@@ -66,11 +46,11 @@ fn play_call(
             let number = call_words::edit_as_principal(store, slots, bytes, parts);
             text_values::put_decimal(out, at, number as u64)
         }
-        Verb::Encode => encode(slots, bytes, parts, out, at),
-        Verb::Decode => {
-            call_answers::tell_decoded(out, at, line_fields::identifier_in(parts, slots[0]))
-        }
+        Verb::Encode => call_tells::encode(slots, bytes, parts, out, at),
+        Verb::Decode => call_tells::decode(slots, parts, out, at),
         Verb::Image => call_answers::tell_image(out, at, store),
+        Verb::MatchView => call_tells::match_view(store, slots, bytes, parts, out, at),
+        Verb::MatchAccess => call_tells::match_access(store, slots, bytes, parts, out, at),
         Verb::Unknown => call_answers::tell_fault(out, at, Fault::OutOfRange),
     }
 }

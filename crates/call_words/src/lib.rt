@@ -1,89 +1,19 @@
-// A line read as what it asks for: a call on a store, an instance to encode or decode, or the image; and the calls that its fields hold, made.
-use line_fields::Kind;
+// A line read as what it asks for, and the calls on a store that its fields hold, made.
+use call_verbs::Verb;
 use line_fields::MOST_FIELDS;
-use line_fields::REQUEST_FIELDS;
 use text_rows::Slot;
 use text_words::LONGEST_LINE;
 ghost use mathlib.Core.Path.{_≡_};
-ghost use lib.ListN.{length};
 ghost use Rattle.edits.specs.Does.{ask};
 ghost use Rattle.line_fields.specs.Requests.{requestIn};
-ghost use Rattle.line_fields.specs.Slots.{Lists, Fit};
+ghost use Rattle.line_fields.specs.Slots.{Fit};
 ghost use Rattle.line_fields.specs.Buffers.{buffers};
-ghost use Rattle.call_words.specs.declared.Verb.the-variants.{Decide, Owner, Principal};
-ghost use Rattle.call_words.specs.Calls.{verbNamed, kindsOf, lineSaid};
-ghost use Rattle.call_words.specs.Reading.{ReadsCall, lineInto, Answers, ownerIn, principalIn, Rooms};
+ghost use Rattle.call_verbs.specs.declared.Verb.the-variants.{Decide, Owner, Principal};
+ghost use Rattle.call_verbs.specs.Calls.{kindsOf, lineSaid};
+ghost use Rattle.call_verbs.specs.CallSlots.{ownerIn, principalIn};
+ghost use Rattle.call_words.specs.Reading.{ReadsCall, lineInto, Answers, Rooms};
 
-// ---- what a line asks for
-
-// What a line asks for, by its first word.
-pub enum Verb {
-    Decide,
-    Owner,
-    Principal,
-    Encode,
-    Decode,
-    Image,
-    Unknown,
-}
-
-fn verb_named(word: &[u8]) -> Verb
-    ensures { λ r. ⌜ r ≡ verbNamed (now (word .entry)) ⌝ }
-{
-    match text_words::place_of(word, b"decide owner principal encode decode image") {
-        0 => Verb::Decide,
-        1 => Verb::Owner,
-        2 => Verb::Principal,
-        3 => Verb::Encode,
-        4 => Verb::Decode,
-        5 => Verb::Image,
-        _ => Verb::Unknown,
-    }
-}
-
-// The kinds of the fields behind a word, at the front of an array.
-fn kinds_of(v: Verb) -> [Kind; MOST_FIELDS]
-    ensures { λ r. ⌜ Lists (kindsOf v) r ⌝ }
-{
-    match v {
-        Verb::Decide => line_fields::request_kinds(),
-        Verb::Owner => [Kind::Edit; MOST_FIELDS],
-        Verb::Principal => [
-            Kind::Number,
-            Kind::Name,
-            Kind::Number,
-            Kind::Edit,
-            Kind::Number,
-            Kind::Number,
-        ],
-        Verb::Encode => [
-            Kind::Number,
-            Kind::Key,
-            Kind::Number,
-            Kind::Number,
-            Kind::Number,
-            Kind::Number,
-        ],
-        Verb::Decode => [Kind::Identifier; MOST_FIELDS],
-        Verb::Image => [Kind::Number; MOST_FIELDS],
-        Verb::Unknown => [Kind::Number; MOST_FIELDS],
-    }
-}
-
-// How many there are.
-fn field_count(v: Verb) -> usize
-    ensures { λ r. ⌜ r ≡ length (kindsOf v) ⌝ }
-{
-    match v {
-        Verb::Decide => REQUEST_FIELDS,
-        Verb::Owner => 1,
-        Verb::Principal => 4,
-        Verb::Encode => 2,
-        Verb::Decode => 1,
-        Verb::Image => 0,
-        Verb::Unknown => 0,
-    }
-}
+// ---- a line read
 
 // What was read of a line: what it asks for, and the slots of its fields.
 pub struct Read {
@@ -91,7 +21,7 @@ pub struct Read {
     pub slots: [Slot; MOST_FIELDS],
 }
 
-// Reads a line; one that is too long, or does not say each field of its word, asks for nothing known.
+// Reads a line; one that is too long, or does not say each field of what its words name, asks for nothing known.
 pub fn read_call(line: &[u8], bytes: &mut [u8], parts: &mut [u32]) -> Read
     requires { ⌜ Rooms (now bytes) (now parts) ⌝ }
     ensures reads { λ r. ⌜ ReadsCall r (now (bytes .exit)) (now (parts .exit)) (lineSaid (now (line .entry))) ⌝ }
@@ -104,10 +34,18 @@ pub fn read_call(line: &[u8], bytes: &mut [u8], parts: &mut [u32]) -> Read
             slots,
         };
     }
-    let end = text_words::end_of(line, 0, b' ');
-    let verb = verb_named(&line[0..end]);
-    let kinds = kinds_of(verb);
-    let fields = line_fields::read(kinds, field_count(verb), line, end + 1, bytes, parts);
+    let named = call_verbs::phrase_of(line);
+    let verb = named.verb;
+    let next = named.next;
+    let kinds = call_verbs::kinds_of(verb);
+    let fields = line_fields::read(
+        kinds,
+        call_verbs::field_count(verb),
+        line,
+        next,
+        bytes,
+        parts,
+    );
     let slots = fields.slots;
     if !fields.whole {
         return Read {

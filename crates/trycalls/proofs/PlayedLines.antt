@@ -14,8 +14,8 @@ use Rattle.program_io.specs.Lines.{linesOf, keep, kept}
 use Rattle.program_io.specs.Desk.{newLine, Taken, AllTaken, Opens, Writes, Refills, NextLine, LastLine}
 use Rattle.program_io.proofs.Lines.{kept-one, kept-none, kept-same}
 use Rattle.program_io.proofs.TakenLines.{taken-written, all-written}
-use Rattle.call_words.specs.Calls.{lineSaid}
-use Rattle.call_words.proofs.Calls.{long-line}
+use Rattle.call_verbs.specs.Calls.{lineSaid}
+use Rattle.call_verbs.proofs.Calls.{long-line}
 use Rattle.call_lines.specs.Plays.{Plays, lineText, PutsLine}
 use Rattle.trycalls.specs.Runs.{PlaysFirst, Played, Serves, Answers}
 

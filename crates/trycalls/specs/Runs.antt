@@ -14,7 +14,7 @@ use Rattle.program_io.specs.declared.Desk.{Desk}
 use Rattle.program_io.specs.Files.{TablesFile}
 use Rattle.program_io.specs.Lines.{linesOf}
 use Rattle.program_io.specs.Desk.{Moved, OutputFailed, newLine, Writes}
-use Rattle.call_words.specs.Calls.{lineSaid}
+use Rattle.call_verbs.specs.Calls.{lineSaid}
 use Rattle.request_lines.specs.Report.{told}
 use Rattle.call_lines.specs.Plays.{Plays, lineText}
 

@@ -3,7 +3,8 @@ use mathlib.Core.Path.{_≡_}
 use native.Mathlib.Omega.{arith}
 use borrow.Author.Needs.{needs}
 use Rattle.call_answers.proofs.Room.{decimal-short}
-use Rattle.call_lines.proofs.Plays.{plays-none, plays-call, plays-encode, plays-decode, plays-image}
+use Rattle.call_lines.specs.Plays.{Plays}
+use Rattle.call_lines.proofs.Plays.{plays-told, plays-call}
 use Rattle.call_lines.proofs.play_call.Statement.{statement}
 use Rattle.call_lines.proofs.play_call.Tie as tie
 
@@ -36,9 +37,20 @@ encode-requires c κs = let e = c .before in
     let s = e .before .before .before .before .before .before in
     (rw (e .enum-told4 .given .1) at (s .pre .0), s .pre .1)
 
-identifier-in-requires : tie.Need-identifier-in-requires
-identifier-in-requires c κs = let e = c .before .before in
-    (rw (e .enum-told5 .given .1) at (e .before .before .before .before .before .before .pre .0)) .within 0 (omega arith)
+decode-requires : tie.Need-decode-requires
+decode-requires c κs = let e = c .before in
+    let s = e .before .before .before .before .before .before in
+    ((rw (e .enum-told5 .given .1) at (s .pre .0)) .within 0 (omega arith), s .pre .1)
+
+match-view-requires : tie.Need-match-view-requires
+match-view-requires c κs = let e = c .before .before in
+    let s = e .before .before .before .before .before .before in
+    (rw (e .enum-told7 .given .1) at (s .pre .0), s .pre .1)
+
+match-access-requires : tie.Need-match-access-requires
+match-access-requires c κs = let e = c .before .before in
+    let s = e .before .before .before .before .before .before in
+    (rw (e .enum-told8 .given .1) at (s .pre .0), s .pre .1)
 
 returns : tie.Need-returns
 returns c = let t = c .before .before in
@@ -56,25 +68,36 @@ returns-3 c = let t = c .before .before in
     rw (d .before .before .enum-told3 .given .1) (plays-call (d .edit-as-principal .ensures) (t .put-decimal3 .ensures))
 
 returns-4 : tie.Need-returns-4
-returns-4 c = let t = c .before .before in rw (t .before .before .enum-told4 .given .1) (plays-encode _ _ _ (t .encode .ensures))
+unfolding Plays
+returns-4 c = let t = c .before .before in rw (t .before .before .enum-told4 .given .1) (plays-told _ _ (λ only. only) (t .encode .ensures))
 
 returns-5 : tie.Need-returns-5
-returns-5 c = let t = c .before .before in
-    let i = t .before in
-    rw (i .before .before .before .enum-told5 .given .1) (plays-decode _ (i .identifier-in .ensures) (t .tell-decoded .ensures))
+unfolding Plays
+returns-5 c = let t = c .before .before in rw (t .before .before .enum-told5 .given .1) (plays-told _ _ (λ only. only) (t .decode .ensures))
 
 returns-6 : tie.Need-returns-6
-returns-6 c = let t = c .before .before in rw (t .before .before .before .enum-told6 .given .1) (plays-image (t .tell-image .ensures))
+unfolding Plays
+returns-6 c = let t = c .before .before in rw (t .before .before .before .enum-told6 .given .1) (plays-told _ _ (λ only. only) (t .tell-image .ensures))
 
 returns-7 : tie.Need-returns-7
-returns-7 c = let t = c .before .before in rw (t .before .before .enum-told7 .given .1) (plays-none (t .tell-fault .ensures))
+unfolding Plays
+returns-7 c = let t = c .before .before in rw (t .before .before .before .enum-told7 .given .1) (plays-told _ _ (λ only. only) (t .match-view .ensures))
+
+returns-8 : tie.Need-returns-8
+unfolding Plays
+returns-8 c = let t = c .before .before in rw (t .before .before .before .enum-told8 .given .1) (plays-told _ _ (λ only. only) (t .match-access .ensures))
+
+returns-9 : tie.Need-returns-9
+unfolding Plays
+returns-9 c = let t = c .before .before in rw (t .before .before .enum-told9 .given .1) (plays-told _ _ (λ only. only) (t .tell-fault .ensures))
 
 pub play-call-spec : {M : Type 1} → statement M
 play-call-spec =
     tie.close
     (tie.spec (λ c. search needs) decide-requires (λ c. search needs) put-decimal-requires (λ c. search needs) edit-as-owner-requires
     (λ c. search needs) put-decimal-requires-2 (λ c. search needs) edit-as-principal-requires (λ c. search needs) put-decimal-requires-3
-    (λ c. search needs) encode-requires (λ c. search needs) (λ c. search needs) identifier-in-requires (λ c κs. search needs)
-    (λ c. search needs) (λ c κs. search needs) (λ c. search needs) (λ c κs. search needs) (λ c. search needs) (λ c. search needs) returns
-    (λ c. search needs) (λ c. search needs) returns-2 (λ c. search needs) (λ c. search needs) returns-3 (λ c. search needs)
-    returns-4 (λ c. search needs) returns-5 (λ c. search needs) (λ c. search needs) returns-6 (λ c. search needs) returns-7)
+    (λ c. search needs) encode-requires (λ c. search needs) decode-requires (λ c. search needs) (λ c κs. search needs) (λ c. search needs)
+    match-view-requires (λ c. search needs) match-access-requires (λ c. search needs) (λ c κs. search needs) (λ c. search needs)
+    (λ c. search needs) returns (λ c. search needs) (λ c. search needs) returns-2 (λ c. search needs) (λ c. search needs) returns-3
+    (λ c. search needs) returns-4 (λ c. search needs) returns-5 (λ c. search needs) (λ c. search needs) returns-6 (λ c. search needs)
+    (λ c. search needs) returns-7 (λ c. search needs) (λ c. search needs) returns-8 (λ c. search needs) returns-9)

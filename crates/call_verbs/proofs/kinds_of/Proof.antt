@@ -1,8 +1,8 @@
--- `call_words::kinds_of` meets its contract: in each arm the kinds of the word are the first of the array. Assumes nothing.
+-- `call_verbs::kinds_of` meets its contract: in each arm the kinds of the word are the first of the array. Assumes nothing.
 use mathlib.Core.Path.{refl}
 use borrow.Author.Needs.{needs}
-use Rattle.call_words.proofs.kinds_of.Statement.{statement}
-use Rattle.call_words.proofs.kinds_of.Tie as tie
+use Rattle.call_verbs.proofs.kinds_of.Statement.{statement}
+use Rattle.call_verbs.proofs.kinds_of.Tie as tie
 
 returns : tie.Need-returns
 returns c = rw (c .before .enum-told .given .1) (c .request-kinds .ensures)
@@ -25,8 +25,15 @@ returns-6 c = rw (c .enum-told6 .given .1) (record { first-are = refl; room = re
 returns-7 : tie.Need-returns-7
 returns-7 c = rw (c .enum-told7 .given .1) (record { first-are = refl; room = refl })
 
+returns-8 : tie.Need-returns-8
+returns-8 c = rw (c .enum-told8 .given .1) (record { first-are = refl; room = refl })
+
+returns-9 : tie.Need-returns-9
+returns-9 c = rw (c .enum-told9 .given .1) (record { first-are = refl; room = refl })
+
 pub kinds-of-spec : {M : Type 1} → statement M
 kinds-of-spec =
     tie.close
     (tie.spec (λ c. search needs) (λ c κs. search needs) (λ c. search needs) (λ c. search needs) (λ c. search needs)
-    (λ c. search needs) (λ c. search needs) (λ c. search needs) returns returns-2 returns-3 returns-4 returns-5 returns-6 returns-7)
+    (λ c. search needs) (λ c. search needs) (λ c. search needs) (λ c. search needs) (λ c. search needs) returns returns-2 returns-3
+    returns-4 returns-5 returns-6 returns-7 returns-8 returns-9)

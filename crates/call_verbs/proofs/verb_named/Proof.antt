@@ -1,12 +1,12 @@
--- `call_words::verb_named` meets its contract: the word's place among the words of `verbs` is its verb's. Assumes nothing.
+-- `call_verbs::verb_named` meets its contract: the word's place among the words of `verbs` is its verb's. Assumes nothing.
 use mathlib.Core.Path.{_≡_, sym, ap, _∙_}
 use native.Mathlib.Omega.{arith}
 use borrow.Author.Needs.{needs}
 use Rattle.text_words.proofs.Named.{wordsOf, named-at, named-none}
 use Rattle.text_words.specs.Words.{split, place}
-use Rattle.call_words.specs.Calls.{verbWord, verbs, orUnknown, verbNamed}
-use Rattle.call_words.proofs.verb_named.Statement.{statement}
-use Rattle.call_words.proofs.verb_named.Tie as tie
+use Rattle.call_verbs.specs.Calls.{verbWord, verbs, orUnknown, verbNamed}
+use Rattle.call_verbs.proofs.verb_named.Statement.{statement}
+use Rattle.call_verbs.proofs.verb_named.Tie as tie
 
 -- the place that was found
 found : (c : tie.After-place-of) → c .place-of .result ≡ place (c .before .before .before .args .word .now) (wordsOf verbWord verbs)

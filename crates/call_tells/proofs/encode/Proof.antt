@@ -1,11 +1,11 @@
--- `call_lines::encode` meets its contract: the column and the key are of what the slots hold. Assumes nothing.
+-- `call_tells::encode` meets its contract: the column and the key are of what the slots hold. Assumes nothing.
 use mathlib.Core.Path.{_≡_}
 use native.Mathlib.Omega.{arith}
 use borrow.Author.Needs.{needs}
 use Rattle.line_fields.specs.Slots.{slotIn}
-use Rattle.call_lines.proofs.Plays.{told-instance}
-use Rattle.call_lines.proofs.encode.Statement.{statement}
-use Rattle.call_lines.proofs.encode.Tie as tie
+use Rattle.call_tells.proofs.Tells.{told-instance}
+use Rattle.call_tells.proofs.encode.Statement.{statement}
+use Rattle.call_tells.proofs.encode.Tie as tie
 
 number-in-requires : tie.Need-number-in-requires
 number-in-requires c κs = c .before .before .before .before .before .pre .0 .within 0 (omega arith)
