@@ -1,5 +1,6 @@
-//! Calls of `trycalls` on the tables as they stand: edits of all kinds, decisions, instances.
+//! Calls of `trycalls` on the tables as they stand: edits of all kinds, decisions, matches, instances.
 
+use super::matches::{match_access, match_view};
 use super::requests::{long_name, principal, request, AROUND, MODELS_AROUND};
 use super::world::{held_key, key, near_identifier, near_name, row, table, World};
 use crate::random::Random;
@@ -10,7 +11,7 @@ use crate::reference::rows::*;
 use crate::reference::tables::Tables;
 
 pub fn call(random: &mut Random, world: &World, tables: &Tables) -> Call {
-    match random.below(20) {
+    match random.below(24) {
         0..=6 => Call::Owner(edit(random, world, tables)),
         7..=12 => principal_call(random, world, tables),
         13..=16 => Call::Decide(request(random, world, tables)),
@@ -22,6 +23,8 @@ pub fn call(random: &mut Random, world: &World, tables: &Tables) -> Call {
             }
             Call::Encode(column(random, table), key)
         }
+        18 | 19 => match_view(random, world, tables),
+        20 | 21 => match_access(random, world, tables),
         _ => Call::Decode(instance_near(random, world, tables)),
     }
 }

@@ -79,6 +79,11 @@ pub fn step_three() -> Vec<Case> {
     cases
 }
 
+/// What a request of `step_three` comes down to at that step.
+pub fn access_match(request: &Request) -> Call {
+    Call::MatchAccess { group: "g".into(), context: request.context.clone(), model: request.model, level: request.level }
+}
+
 /// Each two view rows of one view, with subtrees of one or two parts, under variables of one to three.
 pub fn step_five() -> Vec<Case> {
     let short = |most: u32| -> Vec<Identifier> {
@@ -106,6 +111,11 @@ pub fn step_five() -> Vec<Case> {
         }
     }
     cases
+}
+
+/// What a request of `step_five` comes down to at that step.
+pub fn view_match(request: &Request) -> Call {
+    Call::MatchView { name: "v".into(), variable: request.variable.clone() }
 }
 
 /// Tables where Ann, under model 3 at level 1, may edit every row.
@@ -226,6 +236,24 @@ pub fn requests() -> Vec<Request> {
     requests
 }
 
+/// One match for each value of each field; the others are those of held rows.
+fn matches() -> Vec<Call> {
+    let match_view = |name: Name, variable: Identifier| Call::MatchView { name, variable };
+    let match_access = |group: Name, context: Name, model: u32, level: u32| Call::MatchAccess { group, context, model, level };
+    let mut calls = Vec::new();
+    for number in NUMBERS {
+        calls.push(match_access("g".into(), "".into(), number, 1));
+        calls.push(match_access("g".into(), "".into(), 3, number));
+    }
+    for name in octets() {
+        calls.push(match_view(name.clone(), vec![1]));
+        calls.push(match_access(name.clone(), "".into(), 3, 1));
+        calls.push(match_access("g".into(), name, 3, 1));
+    }
+    calls.extend(identifiers().map(|variable| match_view("v".into(), variable)));
+    calls
+}
+
 /// One row for each value of each field; the others are legal.
 fn rows() -> Vec<Row> {
     let mapping = Mapping { model: 1, name: "m".into(), group: "g".into(), storage: 3, status: 1 };
@@ -264,7 +292,7 @@ fn rows() -> Vec<Row> {
 /// Every call with every field about the ends of its range.
 pub fn ranges() -> (Tables, Vec<Call>) {
     let ann = ann();
-    let mut calls: Vec<Call> = requests().into_iter().map(Call::Decide).collect();
+    let mut calls: Vec<Call> = requests().into_iter().map(Call::Decide).chain(matches()).collect();
     for row in rows() {
         let key = row.key();
         calls.push(Call::Owner(Edit::Put(row.clone())));

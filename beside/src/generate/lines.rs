@@ -24,7 +24,7 @@ fn hex_words(line: &str) -> Vec<usize> {
     let mut hex = match words[0] {
         "decide" => vec![4, 5],
         "principal" => vec![2],
-        "owner" | "encode" | "decode" | "image" => vec![],
+        "owner" | "encode" | "decode" | "match" | "image" => vec![],
         _ => vec![3, 4],
     };
     for (i, word) in words.iter().enumerate() {
@@ -53,7 +53,7 @@ const BYTES: &[u8] = b"019/:afg`AFG@.-+ \t\r\0\x7f\x80\xff_,zp";
 
 pub fn malformed(random: &mut Random, line: &str) -> Vec<u8> {
     let mut bytes = line.as_bytes().to_vec();
-    match random.below(10) {
+    match random.below(11) {
         0 => {
             let word = random.of(&[
                 "4294967296",
@@ -77,13 +77,14 @@ pub fn malformed(random: &mut Random, line: &str) -> Vec<u8> {
         1 => {
             let mut words: Vec<&str> = line.split(' ').collect();
             let place = random.below(words.len());
-            match random.below(4) {
+            match random.below(5) {
                 0 => words.push("1"),
                 1 => words.insert(place, ""),
                 2 => {
                     let word = words[place];
                     words.insert(place, word);
                 }
+                3 => words.truncate(place),
                 _ => {
                     words.remove(place);
                 }
@@ -95,6 +96,7 @@ pub fn malformed(random: &mut Random, line: &str) -> Vec<u8> {
         4 => bytes.truncate(random.between(0, bytes.len())),
         5 => bytes = lengthened(line, random.of(&[2049, 2050, 4095, 4096, 4097, 8192])).into_bytes(),
         6 => bytes = vec![random.of(BYTES); random.of(&[0, 1, 2048, 2049, 5000])],
+        7 => bytes = of_another_table(random, line).into_bytes(),
         _ => {
             for _ in 0..random.between(1, 2) {
                 alter(random, &mut bytes);
@@ -103,6 +105,15 @@ pub fn malformed(random: &mut Random, line: &str) -> Vec<u8> {
     }
     bytes.retain(|byte| *byte != b'\n');
     bytes
+}
+
+const TABLE_WORDS: [&str; 4] = ["context", "mapping", "access", "view"];
+
+/// The fields of one table behind the word of any.
+fn of_another_table(random: &mut Random, line: &str) -> String {
+    let other = random.of(&TABLE_WORDS);
+    let words = line.split(' ').map(|word| if TABLE_WORDS.contains(&word) { other } else { word });
+    words.collect::<Vec<&str>>().join(" ")
 }
 
 fn alter(random: &mut Random, bytes: &mut Vec<u8>) {

@@ -5,5 +5,6 @@ pub mod damage;
 pub mod every;
 pub mod lines;
 pub mod lists;
+pub mod matches;
 pub mod requests;
 pub mod world;

@@ -45,11 +45,18 @@ fn toward_access(random: &mut Random, tables: &Tables, request: &mut Request) {
         request.name = mapping.name.clone();
         let exact = access.matching == 1 && contexts[0].name == access.prefix && random.chance(80);
         request.context = if exact { access.prefix.clone() } else { random.pick(&contexts).name.clone() };
-        request.level = (access.level + random.of(&[0, 0, 1])).min(3);
-        if random.chance(8) {
-            request.level = access.level.max(2) - 1;
-        }
+        request.level = level_about(random, access.level);
         return;
+    }
+}
+
+/// A legal level, mostly one at which a row of this level counts.
+pub fn level_about(random: &mut Random, level: u32) -> u32 {
+    let enough = (level + random.of(&[0, 0, 1])).min(3);
+    if random.chance(8) {
+        level.max(2) - 1
+    } else {
+        enough
     }
 }
 
@@ -86,7 +93,7 @@ fn context(random: &mut Random, world: &World, tables: &Tables) -> Name {
 /// Near a subtree of the view that the request's steps lead to.
 fn variable(random: &mut Random, world: &World, tables: &Tables, request: &Request) -> Identifier {
     if world.dense && random.chance(60) {
-        return (0..random.between(1, 6)).map(|_| random.between(1, 2) as u32).collect();
+        return dense_variable(random);
     }
     if let Ok(view) = view_of(tables, request) {
         let rows: Vec<&View> = tables.views.iter().filter(|row| row.name == view).collect();
@@ -95,6 +102,11 @@ fn variable(random: &mut Random, world: &World, tables: &Tables, request: &Reque
     }
     let subtree = random.pick(&world.subtrees).clone();
     near_subtree(random, &subtree, &[])
+}
+
+/// A variable that many rows of a dense world match.
+pub fn dense_variable(random: &mut Random) -> Identifier {
+    (0..random.between(1, 6)).map(|_| random.between(1, 2) as u32).collect()
 }
 
 pub fn near_subtree(random: &mut Random, subtree: &[u32], mask: &[u8]) -> Identifier {
@@ -160,11 +172,14 @@ pub fn edge(random: &mut Random, request: &mut Request) {
         3 => request.name = long_name(random, &request.name),
         4 => request.context = long_name(random, &request.context),
         5 => request.context = name(random, 0),
-        _ => {
-            let length = random.of(&[0, 0, 1, 127, 128, 128, 129, 129, 130, 256 + request.variable.len().min(128)]);
-            request.variable.resize(length, 1);
-        }
+        _ => edge_variable(random, &mut request.variable),
     }
+}
+
+/// A variable cut or lengthened to an end of its range or just past it, also by 256.
+pub fn edge_variable(random: &mut Random, variable: &mut Identifier) {
+    let length = random.of(&[0, 0, 1, 127, 128, 128, 129, 129, 130, 256 + variable.len().min(128)]);
+    variable.resize(length, 1);
 }
 
 /// The same request as the agent hands it, now and then with a torn last part.

@@ -21,7 +21,7 @@ impl Request {
             && legal_level(self.level)
             && (1..=3).contains(&self.kind)
             && legal_name_or_empty(&self.context)
-            && (1..=VARIABLE_LIMIT).contains(&self.variable.len())
+            && legal_variable(&self.variable)
     }
 }
 
@@ -39,6 +39,22 @@ pub fn decide(tables: &Tables, request: &Request) -> Number {
     }
 }
 
+/// The view row that step 5 decides by, whatever its type.
+pub fn match_view<'a>(tables: &'a Tables, name: &[u8], variable: &[u32]) -> Result<Option<&'a View>, Number> {
+    if !legal_name(name) || !legal_variable(variable) {
+        return Err(OUT_OF_RANGE);
+    }
+    Ok(deciding_row(tables, name, variable))
+}
+
+/// The access row that step 3 chooses. The context need not be held, that being step 1's affair.
+pub fn match_access<'a>(tables: &'a Tables, group: &[u8], context: &[u8], model: u32, level: u32) -> Result<Option<&'a Access>, Number> {
+    if !legal_name(group) || !legal_name_or_empty(context) || !legal_principal_model(model) || !legal_level(level) {
+        return Err(OUT_OF_RANGE);
+    }
+    Ok(chosen_access(tables, group, context, model, level))
+}
+
 /// Steps 1 to 4: the name of the view that the variable is looked up in.
 pub fn view_of(tables: &Tables, request: &Request) -> Result<Name, Number> {
     if !tables.contexts.iter().any(|row| row.name == request.context) {
@@ -49,7 +65,7 @@ pub fn view_of(tables: &Tables, request: &Request) -> Result<Name, Number> {
         Some(row) => &row.group,
         None => return Err(NO_GROUP_NAME),
     };
-    let access = match chosen_access(tables, group, request) {
+    let access = match chosen_access(tables, group, &request.context, request.model, request.level) {
         Some(row) => row,
         None => return Err(NO_ACCESS_ENTRY),
     };
@@ -65,20 +81,20 @@ pub fn view_of(tables: &Tables, request: &Request) -> Result<Name, Number> {
 }
 
 /// Step 3: the candidates, then own model before any, then the longest prefix, then the highest level.
-fn chosen_access<'a>(tables: &'a Tables, group: &[u8], request: &Request) -> Option<&'a Access> {
+fn chosen_access<'a>(tables: &'a Tables, group: &[u8], context: &[u8], model: u32, level: u32) -> Option<&'a Access> {
     let mut candidates: Vec<&Access> = Vec::new();
     for row in &tables.accesses {
         let in_context = match row.matching {
-            1 => row.prefix == request.context,
-            _ => request.context.starts_with(&row.prefix),
+            1 => row.prefix == context,
+            _ => context.starts_with(&row.prefix),
         };
-        let of_model = row.model == 0 || row.model == request.model;
-        if row.status == 1 && row.group == group && in_context && of_model && row.level <= request.level {
+        let of_model = row.model == 0 || row.model == model;
+        if row.status == 1 && row.group == group && in_context && of_model && row.level <= level {
             candidates.push(row);
         }
     }
-    if candidates.iter().any(|row| row.model == request.model) {
-        candidates.retain(|row| row.model == request.model);
+    if candidates.iter().any(|row| row.model == model) {
+        candidates.retain(|row| row.model == model);
     }
     let longest = candidates.iter().map(|row| row.prefix.len()).max()?;
     candidates.retain(|row| row.prefix.len() == longest);
@@ -88,7 +104,7 @@ fn chosen_access<'a>(tables: &'a Tables, group: &[u8], request: &Request) -> Opt
 }
 
 /// Step 5: of the matching rows the one with the longest subtree, at equal length the lexicographically greatest.
-pub fn deciding_row<'a>(tables: &'a Tables, view: &[u8], variable: &[u32]) -> Option<&'a View> {
+fn deciding_row<'a>(tables: &'a Tables, view: &[u8], variable: &[u32]) -> Option<&'a View> {
     let mut best: Option<&View> = None;
     for row in &tables.views {
         if row.status != 1 || row.name != view || !matches(row, variable) {

@@ -1,7 +1,7 @@
 //! The programs `tryreq` and `trycalls`: from the bytes of `tables.bin` and of standard input to those of standard output.
 
 use super::answers::*;
-use super::decision::{decide, Request};
+use super::decision::{decide, match_access, match_view, Request};
 use super::edits::{owner_edit, principal_edit, Caller, Edit};
 use super::image;
 use super::instance;
@@ -61,6 +61,8 @@ pub enum Call {
     Principal(Caller, Edit),
     Encode(u32, Key),
     Decode(Identifier),
+    MatchView { name: Name, variable: Identifier },
+    MatchAccess { group: Name, context: Name, model: u32, level: u32 },
     Image,
 }
 
@@ -77,7 +79,23 @@ pub fn answer(tables: &mut Tables, call: &Call) -> String {
             Ok((column, key)) => format!("instance {} {}", column, key_text(&key)),
             Err(number) => number.to_string(),
         },
+        Call::MatchView { name, variable } => {
+            let found = match_view(tables, name, variable);
+            match_text(found, |row| format!("{} {}", key_text(&Row::View(row.clone()).key()), row.kind))
+        }
+        Call::MatchAccess { group, context, model, level } => {
+            let found = match_access(tables, group, context, *model, *level);
+            match_text(found, |row| key_text(&Row::Access(row.clone()).key()))
+        }
         Call::Image => format!("image {}", hex(&image::write(tables))),
+    }
+}
+
+fn match_text<R>(found: Result<Option<R>, Number>, row_found: impl Fn(R) -> String) -> String {
+    match found {
+        Ok(Some(row)) => row_found(row),
+        Ok(None) => "none".to_string(),
+        Err(number) => number.to_string(),
     }
 }
 
@@ -95,6 +113,7 @@ pub fn call_of(line: &[u8]) -> Option<Call> {
         }
         b"encode" => Call::Encode(words.number()?, words.key()?),
         b"decode" => Call::Decode(words.identifier()?),
+        b"match" => words.match_call()?,
         b"image" => Call::Image,
         _ => return None,
     };
@@ -155,6 +174,14 @@ impl<'a> Words<'a> {
         match self.next()? {
             b"put" => Some(Edit::Put(self.row()?)),
             b"remove" => Some(Edit::Remove(self.key()?)),
+            _ => None,
+        }
+    }
+
+    fn match_call(&mut self) -> Option<Call> {
+        match self.next()? {
+            b"view" => Some(Call::MatchView { name: self.octets()?, variable: self.identifier()? }),
+            b"access" => Some(Call::MatchAccess { group: self.octets()?, context: self.octets()?, model: self.number()?, level: self.number()? }),
             _ => None,
         }
     }
@@ -303,6 +330,10 @@ pub fn call_text(call: &Call) -> String {
         }
         Call::Encode(column, key) => format!("encode {} {}", column, key_text(key)),
         Call::Decode(identifier) => format!("decode {}", dotted(identifier)),
+        Call::MatchView { name, variable } => format!("match view {} {}", hex_or_dash(name), dotted(variable)),
+        Call::MatchAccess { group, context, model, level } => {
+            format!("match access {} {} {} {}", hex_or_dash(group), hex_or_dash(context), model, level)
+        }
         Call::Image => "image".to_string(),
     }
 }

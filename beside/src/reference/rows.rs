@@ -110,6 +110,10 @@ pub fn legal_subtree(subtree: &[u32]) -> bool {
     (1..=SUBTREE_LIMIT).contains(&subtree.len())
 }
 
+pub fn legal_variable(variable: &[u32]) -> bool {
+    (1..=VARIABLE_LIMIT).contains(&variable.len())
+}
+
 pub fn legal_mask(mask: &[u8]) -> bool {
     mask.len() <= MASK_LIMIT
 }

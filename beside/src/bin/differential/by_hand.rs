@@ -2,22 +2,25 @@
 
 use crate::tally::Tally;
 use beside::generate::calls::edit;
+use beside::generate::matches;
 use beside::generate::requests::request;
 use beside::generate::world::{tables, World};
 use beside::handwritten;
 use beside::random::Random;
-use beside::reference::decision::decide;
+use beside::reference::decision::{decide, match_access, match_view};
 use beside::reference::edits::{owner_edit, Edit};
 use beside::reference::image::{self, AgentRequest};
+use beside::reference::lines::{call_text, Call};
 use beside::reference::rows::*;
+use beside::reference::tables::Tables;
 
 pub fn call(image: &[u8], r: &AgentRequest) -> u32 {
     let request = handwritten::Request { model: r.model, name: &r.name, level: r.level, kind: r.kind, context: &r.context };
     handwritten::is_access_allowed(image, &request, &r.variable)
 }
 
-/// The hand-written edits on a store, beside the reference's on its tables.
-pub fn edits(tally: &mut Tally, random: &mut Random, rounds: usize) {
+/// The hand-written edits on a store, beside the reference's on its tables; after each a decision and both matches.
+pub fn on_a_store(tally: &mut Tally, random: &mut Random, rounds: usize) {
     for _ in 0..rounds {
         let world = World::any(random);
         let mut held = tables(random, &world);
@@ -63,6 +66,72 @@ pub fn edits(tally: &mut Tally, random: &mut Random, rounds: usize) {
             if got != expected {
                 return;
             }
+            for asked in [matches::match_view(random, &world, &held), matches::match_access(random, &world, &held)] {
+                check_match(tally, random, &store, &held, &asked);
+            }
         }
     }
+}
+
+/// The key of the row that a match hands back and a view row's type (0 for an access row), or none, or a refusal.
+type Match = Result<Option<(Vec<u8>, u32)>, u32>;
+
+/// A match and its lent room, which has the key at its front and is otherwise as found; now and then on a store a byte short.
+fn check_match(tally: &mut Tally, random: &mut Random, store: &[u8], held: &Tables, asked: &Call) {
+    let short = random.chance(2);
+    let expected = if short { Err(6) } else { reference_match(held, asked) };
+    let found = [random.word() as u8; handwritten::KEY_MAX];
+    let mut expected_room = found;
+    if let Ok(Some((key, _))) = &expected {
+        expected_room[..key.len()].copy_from_slice(key);
+    }
+    let mut room = found;
+    let got = handwritten_match(&store[usize::from(short)..], asked, &mut room);
+    tally.meet("handwritten", match_place(asked, &expected));
+    tally.check(got == expected && room == expected_room, || {
+        format!("handwritten: {} is {got:?}, not {expected:?}, or the lent room differs", call_text(asked))
+    });
+}
+
+fn reference_match(held: &Tables, asked: &Call) -> Match {
+    let key = |row| image::key_bytes(&Row::key(&row));
+    match asked {
+        Call::MatchView { name, variable } => {
+            let row = match_view(held, name, variable)?;
+            Ok(row.map(|row| (key(Row::View(row.clone())), row.kind)))
+        }
+        Call::MatchAccess { group, context, model, level } => {
+            let row = match_access(held, group, context, *model, *level)?;
+            Ok(row.map(|row| (key(Row::Access(row.clone())), 0)))
+        }
+        _ => unreachable!(),
+    }
+}
+
+fn handwritten_match(store: &[u8], asked: &Call, room: &mut [u8; handwritten::KEY_MAX]) -> Match {
+    match asked {
+        Call::MatchView { name, variable } => {
+            let row = handwritten::match_view(store, name, variable, room)?;
+            Ok(row.map(|(length, kind)| (room[..length].to_vec(), u32::from(kind))))
+        }
+        Call::MatchAccess { group, context, model, level } => {
+            let row = handwritten::match_access(store, group, context, *model, *level, room)?;
+            Ok(row.map(|length| (room[..length].to_vec(), 0)))
+        }
+        _ => unreachable!(),
+    }
+}
+
+fn match_place(asked: &Call, expected: &Match) -> String {
+    let call = if matches!(asked, Call::MatchView { .. }) { "match view" } else { "match access" };
+    let told = match expected {
+        Ok(Some((_, 1))) => "included".to_string(),
+        Ok(Some((_, 2))) => "excluded".to_string(),
+        // the model and the level are the last fields of an access row's key
+        Ok(Some((key, _))) if key[key.len() - 5..key.len() - 1] == [0; 4] => "model 0".to_string(),
+        Ok(Some(_)) => "own model".to_string(),
+        Ok(None) => "none".to_string(),
+        Err(number) => number.to_string(),
+    };
+    format!("{call}: {told}")
 }

@@ -79,6 +79,8 @@ fn program_part(tally: &mut Tally, settings: &Settings, name: &'static str) -> R
                     ("principal remove", &["0", "1", "2", "3", "4", "5", "7", "10", "11", "12"]),
                     ("encode", &["oid", "7"]),
                     ("decode", &["instance", "13"]),
+                    ("match view", &["included", "excluded", "none", "7"]),
+                    ("match access", &["own model", "model 0", "none", "7"]),
                     ("image", &["image"]),
                     ("malformed line", &["7"]),
                     ("line over 2,048 bytes", &["7"]),
@@ -94,7 +96,11 @@ fn program_part(tally: &mut Tally, settings: &Settings, name: &'static str) -> R
 fn call_part(tally: &mut Tally, settings: &Settings, name: &'static str) -> Result<(), String> {
     let mut random = Random::new(settings.seed);
     if name == "handwritten" {
-        by_hand::edits(tally, &mut random, settings.rounds);
+        by_hand::on_a_store(tally, &mut random, settings.rounds);
+        tally.require(
+            name,
+            &[("match view", &["included", "excluded", "none", "6", "7"]), ("match access", &["own model", "model 0", "none", "6", "7"])],
+        );
         agent::run(tally, &mut random, name, by_hand::call, settings.rounds);
     } else {
         #[cfg(agent_linked)]

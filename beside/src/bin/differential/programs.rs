@@ -158,13 +158,26 @@ fn count_places(tally: &mut Tally, part: &'static str, tables: &[u8], stdin: &[u
         return;
     }
     for (line, answer) in lines::lines_of(stdin).into_iter().zip(text.lines()) {
-        let answer = answer.split(' ').nth(1).unwrap_or("");
+        let answer = answer_kind(answer);
         let place = match (part, line.len() > lines::LINE_LIMIT) {
             (_, true) => "line over 2,048 bytes",
             ("tryreq", _) => "request",
             _ => call_place(line),
         };
         tally.meet(part, format!("{place}: {answer}"));
+    }
+}
+
+/// The word behind the line's number; where a match tells a row, what kind of row.
+fn answer_kind(answer: &str) -> &str {
+    let words: Vec<&str> = answer.split(' ').collect();
+    match words[..] {
+        [_, "view", .., "1"] => "included",
+        [_, "view", .., "2"] => "excluded",
+        [_, "access", _, _, "0", _] => "model 0",
+        [_, "access", ..] => "own model",
+        [_, word, ..] => word,
+        _ => "",
     }
 }
 
@@ -178,6 +191,8 @@ fn call_place(line: &[u8]) -> &'static str {
         Some(Call::Principal(_, Edit::Remove(_))) => "principal remove",
         Some(Call::Encode(..)) => "encode",
         Some(Call::Decode(_)) => "decode",
+        Some(Call::MatchView { .. }) => "match view",
+        Some(Call::MatchAccess { .. }) => "match access",
         Some(Call::Image) => "image",
     }
 }

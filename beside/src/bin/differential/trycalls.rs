@@ -1,15 +1,17 @@
-//! The part trycalls: lists of calls, edits into every table up to its limit and past it, and pairs of lists for demand 3.
+//! The part trycalls: lists of calls, edits into every table up to its limit and past it, the rows that step 3 and step 5 choose, and
+//! pairs of lists for demand 3.
 
 use crate::programs::{compare, Input, Program};
 use crate::tally::Tally;
 use crate::tryreq::{line_ends, spelt, P12};
 use beside::generate::calls::{call, spoil_row};
 use beside::generate::damage::{beyond_largest, every_damage, one_of_each};
-use beside::generate::every::{columns, instances, ranges, storages};
+use beside::generate::every::{access_match, columns, instances, ranges, step_five, step_three, storages, view_match, Case};
 use beside::generate::lines::{every_alteration, every_wrap};
 use beside::generate::lists::{agreeing_starts, list_keeps, two_lists, Circle};
 use beside::generate::world::{self, grant, largest, tables, Size, World};
 use beside::random::Random;
+use beside::reference::decision::Request;
 use beside::reference::edits::Edit;
 use beside::reference::image;
 use beside::reference::lines::{self, call_of, call_text, hex, Call};
@@ -27,6 +29,7 @@ pub fn run(tally: &mut Tally, random: &mut Random, program: &mut Program, rounds
     for tables in [Some(&P12[..]), Some(&FRESH[..]), Some(&ridge[..]), Some(&b""[..]), None] {
         compare(tally, program, tables, &Input::of(example.clone()));
     }
+    compare(tally, program, Some(&ridge), &Input::of(ridge::MATCHES.iter().map(|(line, _)| line.as_bytes().to_vec()).collect()));
     line_ends(tally, program, &ridge, "encode 5 mapping 3 616e6e");
     line_ends(tally, program, &ridge, "owner put mapping 3 616e6e 6c65616473 3 1");
     for line in forms() {
@@ -47,6 +50,11 @@ pub fn run(tally: &mut Tally, random: &mut Random, program: &mut Program, rounds
     for (start, calls) in [storages(), ranges(), columns(), (Tables::default(), instances())] {
         let lines = calls.iter().map(|call| call_text(call).into_bytes()).collect();
         compare(tally, program, Some(&image::write(&start)), &Input::of(lines));
+    }
+    let (step_three, step_five) = (step_three(), step_five());
+    for _ in 0..10 * rounds {
+        matches(tally, program, random.pick(&step_three), access_match);
+        matches(tally, program, random.pick(&step_five), view_match);
     }
     let every = every_damage(&ridge);
     for _ in 0..10 * rounds {
@@ -69,6 +77,11 @@ pub fn run(tally: &mut Tally, random: &mut Random, program: &mut Program, rounds
     }
 }
 
+fn matches(tally: &mut Tally, program: &mut Program, case: &Case, asked: fn(&Request) -> Call) {
+    let lines = case.requests.iter().map(|request| call_text(&asked(request)).into_bytes()).collect();
+    compare(tally, program, Some(&image::write(&case.tables)), &Input::of(lines));
+}
+
 /// A line of every form, for their alterations.
 fn forms() -> Vec<String> {
     let forms = [
@@ -85,6 +98,8 @@ fn forms() -> Vec<String> {
         "principal 3 616e6e 1 remove view 62617365 1.3.6.1",
         "encode 5 mapping 3 616e6e",
         "decode 1.3.6.1.6.3.16.1.1.1.1.1.97",
+        "match view 62617365 1.3.6.1.2.1.2.2.1.8.2",
+        "match access 6c65616473 726964676531 3 2",
         "image",
     ];
     forms.iter().map(|form| form.to_string()).collect()
