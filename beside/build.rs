@@ -17,8 +17,10 @@ fn main() {
         println!("cargo::rustc-link-arg-bin=benchmark={}", agent.display());
     }
     if env::var_os("CARGO_FEATURE_STORE").is_some() {
-        let bench = folder.join("libbench.a");
-        println!("cargo::rerun-if-changed={}", bench.display());
-        println!("cargo::rustc-link-arg-bin=benchmark={}", bench.display());
+        for name in ["libbench.a", "libbench_match.a"] {
+            let bench = folder.join(name);
+            println!("cargo::rerun-if-changed={}", bench.display());
+            println!("cargo::rustc-link-arg-bin=benchmark={}", bench.display());
+        }
     }
 }

@@ -3,10 +3,13 @@
 //! bisection, and decided on or edited in their place. The benchmark's other side; nothing else uses it.
 
 use std::mem::MaybeUninit;
+use std::ops::Range;
 use std::ptr::read_unaligned;
 use std::slice::from_raw_parts;
 
 pub const ROOM: usize = 46_456;
+/// The longest key: a view's name and a subtree.
+pub const KEY_MAX: usize = 290;
 const LIMITS: [usize; 4] = [16, 64, 64, 96];
 const ALL_ROWS: usize = 240;
 const LARGEST_MODEL: u32 = 2_147_483_647;
@@ -315,13 +318,27 @@ pub struct Request<'a> {
 }
 
 #[inline(always)]
+fn legal_name(name: &[u8]) -> bool {
+    name.len().wrapping_sub(1) < 32
+}
+
+#[inline(always)]
+fn legal_variable(parts: usize) -> bool {
+    parts.wrapping_sub(1) < 128
+}
+
+/// What step 3 asks for besides the group.
+#[inline(always)]
+fn legal_access(context: &[u8], model: u32, level: u32) -> bool {
+    context.len() <= 32 && model.wrapping_sub(1) < LARGEST_MODEL && level.wrapping_sub(1) < 3
+}
+
+#[inline(always)]
 fn in_range(request: &Request, parts: usize) -> bool {
-    request.model.wrapping_sub(1) < LARGEST_MODEL
-        && request.name.len().wrapping_sub(1) < 32
-        && request.level.wrapping_sub(1) < 3
+    legal_access(request.context, request.model, request.level)
+        && legal_name(request.name)
         && request.kind.wrapping_sub(1) < 3
-        && request.context.len() <= 32
-        && parts.wrapping_sub(1) < 128
+        && legal_variable(parts)
 }
 
 /// The decision over an image: the agent's call.
@@ -350,12 +367,19 @@ pub fn store_decide(store: &[u8], request: &Request, variable: &[u32]) -> u32 {
     if !in_range(request, variable.len()) {
         return 7;
     }
-    let mut bytes = [0; 512];
-    for (place, part) in bytes.chunks_exact_mut(4).zip(variable) {
+    let mut room = [0; 512];
+    let variable = spell_variable(&mut room, variable);
+    // SAFETY: the store was judged, and the request is in range.
+    unsafe { decide(store.as_ptr(), &layout, request, variable) }
+}
+
+/// A variable in parts of 4 bytes, as a row has its subtree.
+#[inline(always)]
+fn spell_variable<'a>(room: &'a mut [u8; 512], variable: &[u32]) -> &'a [u8] {
+    for (place, part) in room.chunks_exact_mut(4).zip(variable) {
         place.copy_from_slice(&part.to_be_bytes());
     }
-    // SAFETY: the store was judged, and the request is in range.
-    unsafe { decide(store.as_ptr(), &layout, request, &bytes[..4 * variable.len()]) }
+    &room[..4 * variable.len()]
 }
 
 /// A name as a key has it: its length, then its octets, behind `front`.
@@ -382,12 +406,12 @@ unsafe fn decide(bytes: At, layout: &Layout, request: &Request, variable: &[u8])
     }
     let key = spell(&mut room, &request.model.to_be_bytes(), request.name);
     let group = match held(bytes, layout, 1, key) {
-        Some(place) if *bytes.add(layout.start(place + 1) - 1) == 1 => name_at(bytes.add(layout.start(place) + key.len())),
+        Some(place) if is_active(bytes, layout, place) => name_at(bytes.add(layout.start(place) + key.len())),
         _ => return 2,
     };
-    let view = match view_name(bytes, layout, request, group) {
+    let view = match chosen_access(bytes, layout, group, request.context, request.model, request.level) {
         None => return 3,
-        Some(view) => view,
+        Some(access) => view_name(access, request.kind),
     };
     if view.len() == 1 {
         return 4;
@@ -395,67 +419,102 @@ unsafe fn decide(bytes: At, layout: &Layout, request: &Request, variable: &[u8])
     in_view(bytes, layout, view, variable)
 }
 
+/// A row that a step chose: where it begins, and where its key ends.
+#[derive(Clone, Copy)]
+struct Chosen {
+    row: At,
+    key_end: At,
+}
+
+#[inline(always)]
+unsafe fn is_active(bytes: At, layout: &Layout, place: usize) -> bool {
+    *bytes.add(layout.start(place + 1) - 1) == 1
+}
+
 /// Of the candidates the one of greatest rank: own model, then longest prefix, then highest level.
 #[inline(always)]
-unsafe fn view_name<'a>(bytes: At, layout: &Layout, request: &Request, group: &[u8]) -> Option<&'a [u8]> {
+unsafe fn chosen_access(bytes: At, layout: &Layout, group: &[u8], context: &[u8], model: u32, level: u32) -> Option<Chosen> {
     let mut best = 0;
-    let mut views = bytes;
+    let mut chosen = None;
     let first = bound(bytes, layout, 2, group, false);
     for i in first..layout.row[3] {
         if !begins(bytes, layout, i, group) {
             break;
         }
-        let prefix = name_at(bytes.add(layout.start(i) + group.len()));
+        let row = bytes.add(layout.start(i));
+        let prefix = name_at(row.add(group.len()));
         let behind = prefix.as_ptr().add(prefix.len());
-        let (model, level, matching) = (be_32(behind), u32::from(*behind.add(4)), *behind.add(5));
+        let (row_model, row_level, matching) = (be_32(behind), u32::from(*behind.add(4)), *behind.add(5));
         let length = prefix.len() - 1;
-        let counts = *bytes.add(layout.start(i + 1) - 1) == 1
-            && (model == 0 || model == request.model)
-            && level <= request.level
-            && length <= request.context.len()
-            && (matching == 2 || length == request.context.len());
-        if !counts || prefix[1..] != request.context[..length] {
+        let counts = is_active(bytes, layout, i)
+            && (row_model == 0 || row_model == model)
+            && row_level <= level
+            && length <= context.len()
+            && (matching == 2 || length == context.len());
+        if !counts || prefix[1..] != context[..length] {
             continue;
         }
-        let rank = u32::from(model != 0) << 16 | (length as u32) << 8 | level;
+        let rank = u32::from(row_model != 0) << 16 | (length as u32) << 8 | row_level;
         if rank > best {
             best = rank;
-            views = behind.add(6);
+            chosen = Some(Chosen { row, key_end: behind.add(5) });
         }
     }
-    if best == 0 {
-        return None;
-    }
-    for _ in 1..request.kind {
+    chosen
+}
+
+/// The view that an access row names for the kind of a request.
+#[inline(always)]
+unsafe fn view_name<'a>(access: Chosen, kind: u32) -> &'a [u8] {
+    let mut views = access.key_end.add(1);
+    for _ in 1..kind {
         views = views.add(1 + *views as usize);
     }
-    Some(name_at(views))
+    name_at(views)
+}
+
+#[inline(always)]
+unsafe fn in_view(bytes: At, layout: &Layout, view: &[u8], variable: &[u8]) -> u32 {
+    let mut rows = rows_of_view(bytes, layout, view);
+    match deciding_row(bytes, layout, rows.clone(), view, variable) {
+        Some(row) if family_type(row) == 1 => 0,
+        Some(_) => 5,
+        None if rows.any(|i| is_active(bytes, layout, i)) => 5,
+        None => 4,
+    }
+}
+
+#[inline(always)]
+unsafe fn rows_of_view(bytes: At, layout: &Layout, view: &[u8]) -> Range<usize> {
+    bound(bytes, layout, 3, view, false)..bound(bytes, layout, 3, view, true)
 }
 
 /// A view's rows ascend by length and then by parts, so the last active one that matches decides.
 #[inline(always)]
-unsafe fn in_view(bytes: At, layout: &Layout, view: &[u8], variable: &[u8]) -> u32 {
-    let first = bound(bytes, layout, 3, view, false);
-    let mut i = bound(bytes, layout, 3, view, true);
-    let mut answer = 4;
-    while i > first {
-        i -= 1;
-        if *bytes.add(layout.start(i + 1) - 1) != 1 {
+unsafe fn deciding_row(bytes: At, layout: &Layout, rows: Range<usize>, view: &[u8], variable: &[u8]) -> Option<Chosen> {
+    for i in rows.rev() {
+        if !is_active(bytes, layout, i) {
             continue;
         }
-        answer = 5;
-        let count = bytes.add(layout.start(i) + view.len());
+        let row = bytes.add(layout.start(i));
+        let count = row.add(view.len());
         let length = 4 * *count as usize;
         if length > variable.len() {
             continue;
         }
         let mask = count.add(1 + length);
         if agrees(count.add(1), variable.as_ptr(), length, mask.add(1), *mask as usize) {
-            let included = *mask.add(1 + *mask as usize) == 1;
-            return if included { 0 } else { 5 };
+            return Some(Chosen { row, key_end: mask });
         }
     }
-    answer
+    None
+}
+
+/// The type of a view row stands behind its mask.
+#[inline(always)]
+unsafe fn family_type(view: Chosen) -> u8 {
+    let mask = view.key_end;
+    *mask.add(1 + *mask as usize)
 }
 
 /// The parts wherever the mask bit is 1: eight parts for each octet of the mask, at once where all its bits are.
@@ -502,6 +561,59 @@ unsafe fn equal(a: At, b: At, length: usize) -> bool {
         place += 4;
     }
     true
+}
+
+// ---- the rows that decide, handed back
+
+/// Puts a row's key at the front of `key`: its length.
+#[inline(always)]
+unsafe fn hand_key(chosen: Chosen, key: &mut [u8; KEY_MAX]) -> usize {
+    let length = left(chosen.row, chosen.key_end);
+    key[..length].copy_from_slice(from_raw_parts(chosen.row, length));
+    length
+}
+
+/// The view row that decides on the variable, by the length of its key and its type; a refusal's number is the error.
+#[inline(never)]
+pub fn match_view(store: &[u8], name: &[u8], variable: &[u32], key: &mut [u8; KEY_MAX]) -> Result<Option<(usize, u8)>, u32> {
+    let mut layout = Layout::new();
+    match judge_store(store, &mut layout) {
+        0 => {}
+        refusal => return Err(refusal),
+    }
+    if !legal_name(name) || !legal_variable(variable.len()) {
+        return Err(7);
+    }
+    let (mut name_room, mut variable_room) = ([0; 40], [0; 512]);
+    let view = spell(&mut name_room, &[], name);
+    let variable = spell_variable(&mut variable_room, variable);
+    let bytes = store.as_ptr();
+    // SAFETY: the store was judged, and the name and the variable are in range.
+    unsafe {
+        let rows = rows_of_view(bytes, &layout, view);
+        let row = deciding_row(bytes, &layout, rows, view, variable);
+        Ok(row.map(|row| (hand_key(row, key), family_type(row))))
+    }
+}
+
+/// The access row chosen for the group, by the length of its key; a refusal's number is the error.
+#[inline(never)]
+pub fn match_access(store: &[u8], group: &[u8], context: &[u8], model: u32, level: u32, key: &mut [u8; KEY_MAX]) -> Result<Option<usize>, u32> {
+    let mut layout = Layout::new();
+    match judge_store(store, &mut layout) {
+        0 => {}
+        refusal => return Err(refusal),
+    }
+    if !legal_name(group) || !legal_access(context, model, level) {
+        return Err(7);
+    }
+    let mut room = [0; 40];
+    let group = spell(&mut room, &[], group);
+    // SAFETY: the store was judged, and the names and numbers are in range.
+    unsafe {
+        let row = chosen_access(store.as_ptr(), &layout, group, context, model, level);
+        Ok(row.map(|row| hand_key(row, key)))
+    }
 }
 
 // ---- the owner's edits

@@ -59,7 +59,7 @@ mod proved {
     #[cfg(feature = "store")]
     pub mod store {
         use super::Request;
-        use beside::handwritten::ROOM;
+        use beside::handwritten::{KEY_MAX, ROOM};
 
         extern "C" {
             fn bench_decide(
@@ -74,6 +74,26 @@ mod proved {
                 context_len: usize,
                 variable: *const u32,
                 variable_len: usize,
+            ) -> u32;
+            fn bench_match_view(
+                store: *const u8,
+                store_len: usize,
+                name: *const u8,
+                name_len: usize,
+                variable: *const u32,
+                variable_len: usize,
+                key: *mut [u8; KEY_MAX],
+            ) -> u32;
+            fn bench_match_access(
+                store: *const u8,
+                store_len: usize,
+                group: *const u8,
+                group_len: usize,
+                context: *const u8,
+                context_len: usize,
+                model: u32,
+                level: u32,
+                key: *mut [u8; KEY_MAX],
             ) -> u32;
             fn bench_owner_edit(store: *mut u8, store_len: usize, operation: u32, table: u32, bytes: *const u8, bytes_len: usize) -> u32;
             fn bench_read_image(image: *const u8, image_len: usize, store: *mut [u8; ROOM]) -> u32;
@@ -95,6 +115,16 @@ mod proved {
                     variable.as_ptr(),
                     variable.len(),
                 )
+            }
+        }
+
+        pub fn match_view(store: &[u8], name: &[u8], variable: &[u32], key: &mut [u8; KEY_MAX]) -> u32 {
+            unsafe { bench_match_view(store.as_ptr(), store.len(), name.as_ptr(), name.len(), variable.as_ptr(), variable.len(), key) }
+        }
+
+        pub fn match_access(store: &[u8], group: &[u8], context: &[u8], model: u32, level: u32, key: &mut [u8; KEY_MAX]) -> u32 {
+            unsafe {
+                bench_match_access(store.as_ptr(), store.len(), group.as_ptr(), group.len(), context.as_ptr(), context.len(), model, level, key)
             }
         }
 
@@ -319,16 +349,58 @@ fn agent_rows(bench: &mut Bench) {
 }
 
 #[cfg(feature = "store")]
+fn store_of(image: &[u8]) -> Box<[u8; handwritten::ROOM]> {
+    let mut store = Box::new([0u8; handwritten::ROOM]);
+    assert_eq!(handwritten::read_image(image, &mut store), 0);
+    store
+}
+
+#[cfg(feature = "store")]
+fn match_rows(bench: &mut Bench) {
+    use handwritten::KEY_MAX;
+    use proved::store;
+
+    fn number<R>(matched: Result<R, u32>) -> u64 {
+        matched.err().map_or(0, u64::from)
+    }
+    let ridge = store_of(&image::write(&ridge::tables()));
+    let full = store_of(&image::write(&full()));
+    let p1 = ridge::request(3, 1, &[8, 2]);
+    let views = [
+        ("the Ridge tables, P1", &ridge, Name::from("base"), p1.variable),
+        ("full tables, the last view row decides", &full, name(b'v', 0), subtree(95)),
+        ("full tables, the first view row decides", &full, name(b'v', 0), subtree(0)),
+    ];
+    for (title, lent, view, variable) in views {
+        let (mut a, mut b) = ([0u8; KEY_MAX], [0u8; KEY_MAX]);
+        bench.row(
+            &format!("match of a view, {title}"),
+            || u64::from(store::match_view(black_box(&lent[..]), black_box(&view), black_box(&variable), black_box(&mut a))),
+            || number(handwritten::match_view(black_box(&lent[..]), black_box(&view), black_box(&variable), black_box(&mut b))),
+        );
+        bench.differ |= a != b;
+    }
+    let groups = [
+        ("the Ridge tables, P1", &ridge, Name::from("leads"), p1.context),
+        ("full tables, the last access row is chosen", &full, name(b'g', 63), name(b'c', 15)),
+    ];
+    for (title, lent, group, context) in groups {
+        let (mut a, mut b) = ([0u8; KEY_MAX], [0u8; KEY_MAX]);
+        bench.row(
+            &format!("match of an access row, {title}"),
+            || u64::from(store::match_access(black_box(&lent[..]), black_box(&group), black_box(&context), MODEL, 3, black_box(&mut a))),
+            || number(handwritten::match_access(black_box(&lent[..]), black_box(&group), black_box(&context), MODEL, 3, black_box(&mut b))),
+        );
+        bench.differ |= a != b;
+    }
+}
+
+#[cfg(feature = "store")]
 fn store_rows(bench: &mut Bench) {
     use beside::random::Random;
     use handwritten::ROOM;
     use proved::store;
 
-    let store_of = |image: &[u8]| {
-        let mut store = Box::new([0u8; ROOM]);
-        assert_eq!(handwritten::read_image(image, &mut store), 0);
-        store
-    };
     for asked in asked() {
         let lent = store_of(&asked.image);
         let request = asked.request();
@@ -428,7 +500,10 @@ fn main() -> ExitCode {
     println!("|---|---|---|---|---|");
     agent_rows(&mut bench);
     #[cfg(feature = "store")]
-    store_rows(&mut bench);
+    {
+        store_rows(&mut bench);
+        match_rows(&mut bench);
+    }
     println!();
     println!("{} batches of {} ms of processor time on each side, in turn.", bench.batches, bench.nanoseconds / 1_000_000);
     if bench.differ {

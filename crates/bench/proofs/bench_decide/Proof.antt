@@ -1,6 +1,5 @@
 -- The number of what the call answered. Assumes nothing.
 use mathlib.Core.Path.{_∙_}
-use native.Mathlib.Omega.{arith}
 use borrow.Author.Needs.{needs}
 use Rattle.bench.proofs.bench_decide.Statement.{statement}
 use Rattle.bench.proofs.bench_decide.Tie as tie

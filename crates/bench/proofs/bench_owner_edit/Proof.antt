@@ -1,7 +1,6 @@
 -- The call's own promise, for the operation and the table of the numbers. Assumes nothing.
 use mathlib.Core.Path.{sym}
 use borrow.Author.Needs.{needs}
-use Rattle.bench.specs.Measured.{Numbered}
 use Rattle.bench.proofs.bench_owner_edit.Statement.{statement}
 use Rattle.bench.proofs.bench_owner_edit.Tie as tie
 

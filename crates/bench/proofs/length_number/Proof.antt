@@ -1,6 +1,4 @@
 -- Each case has its number. Assumes nothing.
-use mathlib.Core.Path.{sym, _∙_}
-use native.Mathlib.Omega.{arith}
 use borrow.Author.Needs.{needs}
 use Rattle.bench.proofs.length_number.Statement.{statement}
 use Rattle.bench.proofs.length_number.Tie as tie

@@ -1,7 +1,5 @@
 -- Each test decides one number: the last table is what is left. Assumes nothing.
 use borrow.Author.Tests.{eq-eqb, ne-eqb}
-use borrow.Author.Needs.{needs}
-use native.Mathlib.Omega.{arith}
 use Rattle.bench.proofs.table_numbered.Statement.{statement}
 use Rattle.bench.proofs.table_numbered.Tie as tie
 use Rattle.bench.proofs.table_numbered.Reads as reads
