@@ -10,12 +10,11 @@ use mathlib.Core.Option.{Option, none, some, Option·map}
 use Prim.Native.Nat.{ℕ}
 use native.Mathlib.Omega.{arith}
 use lib.Dec.{leb}
-use lib.ListN.{length, take, getD, length-map}
+use lib.ListN.{length, getD, length-map}
 use lib.Seq.{take-all}
 use Rattle.answers.specs.declared.Fault.{Fault}
-use Rattle.answers.specs.declared.Fault.the-variants.{TableFull, RowAbsent}
 use Rattle.numbers.specs.Lists.{isNone}
-use Rattle.numbers.proofs.Bools.{split, clash}
+use Rattle.numbers.proofs.Bools.{split}
 use Rattle.numbers.proofs.Greatest.{Ascends}
 use Rattle.rows.specs.declared.Operation.{Operation}
 use Rattle.rows.specs.declared.Operation.the-variants.{Put, Remove}
@@ -34,7 +33,7 @@ use Rattle.table_update.proofs.Stores.{rowKey}
 use Rattle.edit_rules.specs.declared.Edited.{Edited}
 use Rattle.edit_rules.specs.declared.Edited.the-variants.{Done, Barred, Faulty}
 use Rattle.edit_rules.specs.TableRows.{volatile, rowOf, rowIndex, storageOf, rowsOf, tablesOf, withRows}
-use Rattle.edit_rules.specs.Edits.{Outcome, outcome, editOf, fieldsOf, indexOfEdit, mayPut, mayRemove, heldFault, rowFault, comesIn, isFull, rowsAfter}
+use Rattle.edit_rules.specs.Edits.{Outcome, outcome, editOf, fieldsOf, indexOfEdit, mayPut, heldFault, rowFault, comesIn, isFull, rowsAfter}
 use Rattle.edit_rules.specs.Edits.{applied, settled, faulted, edit, isContext}
 use Rattle.edit_rules.specs.Storage.{storageIn, placeFault, placed, fullAt}
 use Rattle.edit_rules.proofs.Storages.{row-storage, whole-held, storageFound}

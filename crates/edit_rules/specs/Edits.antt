@@ -1,7 +1,7 @@
 -- Edits of the rows held (document 01, "Edits" and "Where each number is met"): what they are, the storage rules, how they are judged by the row
 -- held, room, what they leave; who makes them, and how the tables judge a principal's. Assumes nothing.
 use mathlib.Core.Bool.{Bool, true, false, cond, not, _&&_, _||_}
-use mathlib.Core.List.{List, [], _∷_}
+use mathlib.Core.List.{List, []}
 use mathlib.Core.Option.{Option, none, some, Option·map}
 use Prim.Native.Nat.{ℕ}
 use lib.Dec.{eqb, leb}
