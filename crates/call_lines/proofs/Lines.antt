@@ -10,7 +10,7 @@ use Rattle.text_values.specs.Texts.{decimalText, Puts}
 use Rattle.text_values.proofs.Digits.{length-decimal}
 use Rattle.text_values.proofs.Puts.{Onward, start, step, last, kept}
 use Rattle.call_verbs.specs.Calls.{Asked}
-use Rattle.call_answers.specs.Answers.{answerRoom, Room}
+use Rattle.call_answers.specs.Answers.{Room}
 use Rattle.call_lines.specs.Plays.{lineRoom, lineText, PutsPlay, PutsLine}
 
 line-length : (number : ℕ) (text : List ℕ) → length (lineText number text) ≤ 22 + length text

@@ -1,23 +1,23 @@
 -- Laws of lines played one after the other. Lists of them join; of a line that is too long, what is kept is played as the line is. A line found and played
 -- goes behind the lines taken, and at the input's end all of its lines are played. Assumes nothing.
 use mathlib.Core.Path.{_≡_, refl, sym, ap, _∙_}
-use mathlib.Core.Bool.{Bool, true, false, cond}
+use mathlib.Core.Bool.{true, false, cond}
 use mathlib.Core.List.{List, [], _∷_, _++_, append-assoc, append-nil}
 use mathlib.Core.Option.{none}
-use Prim.Native.Nat.{ℕ, suc, _+_, _-_, _≤_}
+use Prim.Native.Nat.{ℕ, _+_, _-_, _≤_}
 use native.Mathlib.Omega.{arith}
 use lib.ListN.{length, take, length-append}
 use Rattle.numbers.proofs.Bools.{clash}
 use Rattle.text_values.proofs.Puts.{front}
 use Rattle.program_io.specs.declared.Desk.{Desk}
 use Rattle.program_io.specs.Lines.{linesOf, keep, kept}
-use Rattle.program_io.specs.Desk.{newLine, Taken, AllTaken, Opens, Writes, Refills, NextLine, LastLine}
+use Rattle.program_io.specs.Desk.{newLine, Taken, Opens, Writes, Refills, NextLine, LastLine}
 use Rattle.program_io.proofs.Lines.{kept-one, kept-none, kept-same}
 use Rattle.program_io.proofs.TakenLines.{taken-written, all-written}
 use Rattle.call_verbs.specs.Calls.{lineSaid}
 use Rattle.call_verbs.proofs.Calls.{long-line}
 use Rattle.call_lines.specs.Plays.{Plays, lineText, PutsLine}
-use Rattle.trycalls.specs.Runs.{PlaysFirst, Played, Serves, Answers}
+use Rattle.trycalls.specs.Runs.{Played, Serves, Answers}
 
 -- ---- lists of lines
 

@@ -1,5 +1,4 @@
 -- `call_lines::play_call` meets its contract: what the word asks for is known in each arm, and what its function answers is told. Assumes nothing.
-use mathlib.Core.Path.{_≡_}
 use native.Mathlib.Omega.{arith}
 use borrow.Author.Needs.{needs}
 use Rattle.call_answers.proofs.Room.{decimal-short}

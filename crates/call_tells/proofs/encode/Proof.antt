@@ -1,5 +1,4 @@
 -- `call_tells::encode` meets its contract: the column and the key are of what the slots hold. Assumes nothing.
-use mathlib.Core.Path.{_≡_}
 use native.Mathlib.Omega.{arith}
 use borrow.Author.Needs.{needs}
 use Rattle.line_fields.specs.Slots.{slotIn}

@@ -1,5 +1,5 @@
 -- `call_words::decide` meets its contract: each slot lies in its buffer, and the request is of what the slots hold. Assumes nothing.
-use mathlib.Core.Path.{_≡_, ap, _∙_}
+use mathlib.Core.Path.{ap, _∙_}
 use native.Mathlib.Omega.{arith}
 use borrow.Author.Needs.{needs}
 use Rattle.image.specs.Store.{held}

@@ -1,5 +1,4 @@
 -- `call_words::edit_as_owner` meets its contract: the edit is of what the slot holds. Assumes nothing.
-use mathlib.Core.Path.{_≡_}
 use native.Mathlib.Omega.{arith}
 use borrow.Author.Needs.{needs}
 use Rattle.edits.specs.Does.{edited, owns}

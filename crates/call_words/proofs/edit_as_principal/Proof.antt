@@ -1,5 +1,4 @@
 -- `call_words::edit_as_principal` meets its contract: the caller and the edit are of what the slots hold. Assumes nothing.
-use mathlib.Core.Path.{_≡_}
 use native.Mathlib.Omega.{arith}
 use borrow.Author.Needs.{needs}
 use Rattle.edits.specs.Does.{edited, acts}

@@ -43,13 +43,17 @@ returns : tie.Need-returns
 returns c =
     let k = c .before .before in
     let a = start (survey k) .args in
-    rw (access-legal (a .store .now) (a .group-name .now) (a .context-name .now) (a .security-model) (a .security-level) (k .before .l .given .0 .0) (called k)) (c .access-row .ensures)
+    rw
+    (access-legal (a .store .now) (a .group-name .now) (a .context-name .now) (a .security-model) (a .security-level) (k .before .l .given .0 .0) (called k))
+    (c .access-row .ensures)
 
 returns-2 : tie.Need-returns-2
 returns-2 c =
     let f = c .before .before .before in
     let a = start f .args in
-    hands-faulty (access-refused (a .store .now) (a .group-name .now) (a .context-name .now) (a .security-model) (a .security-level) (sym (c .before .f .given .1) ∙ answered f))
+    hands-faulty
+    (access-refused (a .store .now) (a .group-name .now) (a .context-name .now) (a .security-model) (a .security-level)
+    (sym (c .before .f .given .1) ∙ answered f))
 
 pub match-access-spec : {M : Type 1} → statement M
 match-access-spec =
