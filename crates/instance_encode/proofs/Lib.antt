@@ -3,3 +3,4 @@ pub mod Runs
 pub mod Keys
 pub mod Bases
 pub mod Answers
+pub mod Encoded

@@ -96,13 +96,13 @@ fn put_numbers(out: &mut [u32], at: usize, bytes: &[u8], from: usize, n: usize)
 }
 
 // Where the numbers of four bytes lie in a key: together, from a place on.
-struct Quads {
-    from: usize,
-    count: usize,
+pub struct Quads {
+    pub from: usize,
+    pub count: usize,
 }
 
 // Where they lie by table. In the key's index each of them is a part, and so is every other byte.
-fn quads_of(t: Table, key: &[u8]) -> Quads
+pub fn quads_of(t: Table, key: &[u8]) -> Quads
     requires { ⌜ faults (keyFields t) (now key) ≡ none ⌝ }
     ensures place { λ r. ⌜ r .from ≡ quadsFrom t (now (key .entry)) ⌝ }
     ensures number { λ r. ⌜ r .count ≡ quadsIn t (now (key .entry)) ⌝ }

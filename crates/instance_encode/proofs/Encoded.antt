@@ -1,0 +1,50 @@
+-- Encoding a listed column of a legal key into 128 parts never fails: an instance has 110 at most. What is written is the instance. Assumes nothing.
+use mathlib.Core.Path.{_≡_, refl, ap, _∙_}
+use mathlib.Core.Bool.{true}
+use mathlib.Core.List.{List, _++_}
+use mathlib.Core.Option.{none}
+use Prim.Native.Nat.{ℕ, _-_, _≤_}
+use native.Mathlib.Omega.{arith}
+use lib.ListN.{length, take, drop, length-take}
+use lib.Seq.{take-at}
+use Rattle.answers.specs.declared.Fault.{Fault}
+use Rattle.answers.specs.declared.Written.{Written}
+use Rattle.answers.specs.declared.Written.the-variants.{Length, Unwritten}
+use Rattle.rows.specs.declared.Table.{Table}
+use Rattle.rows.specs.Fields.{faults}
+use Rattle.rows.specs.Rows.{keyFields, indexOf}
+use Rattle.instance_encode.specs.Instances.{instance, lists, encodeFault, written, Encodes}
+use Rattle.instance_encode.proofs.Answers.{instance-short, encode-accepted}
+
+module _ (t : Table) (column : ℕ) (key : List ℕ) (c : lists t column ≡ true) (f : faults (keyFields t) key ≡ none)
+    {found after : List ℕ} {r : Written} (e : Encodes t column key found after r) (l : length found ≡ 128) where
+  abbrev here : List ℕ
+  here = instance t column (indexOf t key)
+
+  fits : encodeFault t column key (length found) ≡ none
+  fits = encode-accepted t column key found c f (omega (arith, instance-short t column key f))
+
+  answered : r ≡ Length (length here)
+  answered = e .answer-is ∙ ap (λ o. written o (length here)) fits
+
+  pub encoded-always : {g : Fault} → r ≡ Unwritten g → ⊥
+  encoded-always {g} q = let z : _≡_ {A = ℕ} 0 1 = cc answered in omega arith
+
+  pub encoded-length : {n : ℕ} → r ≡ Length n → n ≡ length here
+  encoded-length {n} q = cc answered
+
+  pub encoded-buffer : after ≡ here ++ drop (length here) found
+  encoded-buffer = rw fits at (e .buffer-is)
+
+  -- the parts written are the instance's
+  pub encoded-parts : {n : ℕ} → r ≡ Length n → take (n - 0) after ≡ here
+  encoded-parts {n} q =
+      let z : n - 0 ≡ length here = omega (arith, encoded-length q) in
+      rw (z, encoded-buffer) (take-at here (drop (length here) found) (length here) refl)
+
+  -- which are there, and few
+  pub encoded-room : {n : ℕ} → r ≡ Length n → n ≤ length after
+  encoded-room {n} q = omega (arith, encoded-length q, ap length (encoded-parts q), length-take (n - 0) after)
+
+  pub encoded-few : {n : ℕ} → r ≡ Length n → length (take (n - 0) after) ≤ 128
+  encoded-few q = omega (arith, ap length (encoded-parts q), instance-short t column key f)
