@@ -1,0 +1,3 @@
+pub mod Ascending
+pub mod Handed
+pub mod Examples
