@@ -1,0 +1,5 @@
+pub mod Comparing
+pub mod Fronts
+pub mod Parts
+pub mod KeyEnds
+pub mod Keys
