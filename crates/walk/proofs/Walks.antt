@@ -1,0 +1,125 @@
+-- A walk over sound tables: they ascend, so that the least instance that follows is the first (`Ascending` of crate `walk_rules`); and once steps 1 to 4
+-- came to a view, what may be read is what the view lets be read. Assumes nothing.
+use mathlib.Core.Path.{_≡_, refl, sym, ap, _∙_}
+use mathlib.Core.Bool.{Bool, true, false, cond, _&&_}
+use mathlib.Core.List.{List, [], map}
+use mathlib.Core.Option.{Option, none, some}
+use Prim.Native.Nat.{ℕ}
+use Rattle.answers.specs.declared.Cause.{Cause}
+use Rattle.answers.specs.declared.Fault.{Fault}
+use Rattle.answers.specs.declared.Fault.the-variants.{NotSound, OutOfRange}
+use Rattle.numbers.specs.Laid.{laid}
+use Rattle.numbers.specs.Lists.{find}
+use Rattle.numbers.specs.Order.{before}
+use Rattle.numbers.proofs.Keeps.{every-all, find-ext}
+use Rattle.numbers.proofs.Greatest.{Ascends, ascends-map, ascends-imp}
+use Rattle.rows.specs.declared.Table.{Table}
+use Rattle.rows.specs.declared.Table.the-variants.{Context, Mapping, Access, View}
+use Rattle.rows.specs.Fields.{orElse}
+use Rattle.rows.specs.Rows.{indexOf}
+use Rattle.rows.specs.Tables.{Tables}
+use Rattle.image_layout.specs.declared.Extent.{Extent}
+use Rattle.image_layout.specs.declared.Layout.{Layout}
+use Rattle.image_layout.specs.Layout.{rowsIn, layoutOf}
+use Rattle.image_judge.specs.declared.Surveyed.the-variants.{Bad}
+use Rattle.image_judge.specs.Faults.{SoundTable, SoundLayout, surveyed, tablesAt, tablesIn}
+use Rattle.image_judge.proofs.Sound.{ascends-rows}
+use Rattle.image.specs.Store.{isSound, storeFault, callFault, held}
+use Rattle.image.proofs.Surveys.{Called}
+use Rattle.decision_steps.specs.Request.{read}
+use Rattle.decision_parts.specs.declared.Authorized.{Authorized}
+use Rattle.decision_parts.specs.declared.NamedView.{NamedView}
+use Rattle.decision_parts.specs.declared.Standing.the-variants.{Denied, Viewed}
+use Rattle.decision_parts.specs.Parts.{rowsOf, saying, Authorizes}
+use Rattle.decision_parts.proofs.Decisions.{viewed-decision}
+use Rattle.edit_rules.specs.TableRows as table-rows
+use Rattle.edit_rules.specs.TableRows.{rowOf, rowIndex}
+use Rattle.edit_rules.specs.Edits.{Caller, callerOf}
+use Rattle.edit_rules.proofs.Outcomes.{row-index}
+use Rattle.walk_rules.specs.declared.Walked.{Walked}
+use Rattle.walk_rules.specs.Numbers.{walkedNumber}
+use Rattle.walk_rules.specs.Walk.{Instance, instances, isAllowed, mayRead, follows, nextInstance}
+use Rattle.walk_rules.specs.Walk.{refusal, reaching, ifViewed, legalWalk, walkOn, walkIn, Walk, Walks, LegalKey}
+use Rattle.walk_rules.proofs.Ascending.{next-first}
+use Rattle.walk_rows.specs.Reading.{readable}
+use Rattle.walk_find.specs.Met.{stops}
+use Rattle.walk.specs.Hands.{Hands}
+
+-- ---- sound tables ascend
+
+rows-ascend : (t : Table) (w : List ℕ) (x : Extent) → SoundTable t w x → Ascends (rowIndex t) (map (rowOf t) (rowsIn w x))
+rows-ascend t w x s =
+    ascends-map (rowIndex t) (rowOf t) (rowsIn w x)
+    (ascends-imp (λ r. true) (indexOf t) (λ r. rowIndex t (rowOf t r)) (λ a b p q h. rw (row-index t a, row-index t b) h) (rowsIn w x)
+    (every-all (λ r. true) (rowsIn w x) (λ r. refl)) (ascends-rows t [] (rowsIn w x) (s .rows-sound)))
+
+tables-ascend : (w : List ℕ) (l : Layout) → SoundLayout w l → (t : Table) → Ascends (rowIndex t) (table-rows.rowsOf t (tablesAt w l))
+unfolding tablesAt
+tables-ascend w l s Context = rows-ascend Context w (l .contexts) (s .contexts-sound)
+tables-ascend w l s Mapping = rows-ascend Mapping w (l .mappings) (s .mappings-sound)
+tables-ascend w l s Access = rows-ascend Access w (l .accesses) (s .accesses-sound)
+tables-ascend w l s View = rows-ascend View w (l .views) (s .views-sound)
+
+-- ---- by the standing that steps 1 to 4 came to
+
+module _ {w : List ℕ} {l : Layout} {model : ℕ} {name : List ℕ} {level : ℕ} {r : Authorized} (k : Authorizes w l model name level read [] r)
+    (identifier : List ℕ) (h : legalWalk (callerOf model name level) identifier ≡ true) where
+  abbrev ts : Tables
+  ts = tablesAt w l
+
+  abbrev c : Caller
+  c = callerOf model name level
+
+  abbrev here : Option Instance
+  here = nextInstance ts c identifier
+
+  by-authority : walkOn ts c identifier ≡ ifViewed (saying w (r .standing)) (reaching here)
+  unfolding walkOn
+  by-authority = rw h (ap (λ a. ifViewed a (reaching here)) (sym (k .standing .is)))
+
+  pub walk-denied : {cause : Cause} → r .standing ≡ Denied cause → walkOn ts c identifier ≡ refusal (Walked.Denied cause)
+  walk-denied e = by-authority ∙ ap (λ s. ifViewed (saying w s) (reaching here)) e
+
+  module _ {v : NamedView} (e : r .standing ≡ Viewed v) where
+    follows-stops : (i : Instance) → follows ts c identifier i ≡ stops (rowsOf w v) identifier i
+    unfolding follows stops mayRead readable
+    follows-stops i = ap (λ d. before identifier (i .identifier) && isAllowed d) (sym (viewed-decision k (i .identifier) e))
+
+    pub walk-viewed : SoundLayout w l → walkOn ts c identifier ≡ reaching (find (stops (rowsOf w v) identifier) (instances ts))
+    walk-viewed s =
+        by-authority
+        ∙ ap (λ u. ifViewed (saying w u) (reaching here)) e
+        ∙ ap reaching (next-first ts (tables-ascend w l s) c identifier ∙ find-ext _ _ (instances ts) follows-stops)
+
+-- ---- the call: 6, 7, or the walk on the tables held
+
+refused : (sound legal : Bool) (ts : Tables) (c : Caller) (identifier : List ℕ) (d : Layout) {f : Fault} → legalWalk c identifier ≡ legal
+    → Bad f ≡ surveyed (orElse (cond sound none (some NotSound)) (cond legal none (some OutOfRange))) d
+    → walkIn (cond sound (some ts) none) c identifier ≡ refusal (Walked.Faulty f)
+unfolding walkOn
+refused true true ts c identifier d h e = cc
+refused true false ts c identifier d {f} h e = let z : OutOfRange ≡ f = cc in rw (h, z)
+refused false legal ts c identifier d {f} h e = let z : NotSound ≡ f = cc in rw z
+
+module _ (w : List ℕ) (c : Caller) (identifier : List ℕ) where
+  pub walk-refused : {f : Fault} → Bad f ≡ surveyed (callFault w (legalWalk c identifier)) (layoutOf w)
+      → walkIn (held w) c identifier ≡ refusal (Walked.Faulty f)
+  unfolding callFault storeFault held
+  walk-refused e = refused (isSound w) (legalWalk c identifier) (tablesIn w) c identifier (layoutOf w) refl e
+
+  pub walk-laid : {l : Layout} → Called w (legalWalk c identifier) l → walkIn (held w) c identifier ≡ walkOn (tablesAt w l) c identifier
+  walk-laid k = ap (λ o. walkIn o c identifier) (k .holds)
+
+  -- what is handed back is the promise
+  pub hands-walks : {walk : Walk} {parts parts′ key key′ : List ℕ} {r : Walked} → walkIn (held w) c identifier ≡ walk → Hands walk parts parts′ key key′ r
+      → Walks c identifier w parts parts′ key key′ r × LegalKey r key′
+  hands-walks {parts = parts} {key = key} e h =
+      let a = h .answer-is ∙ ap (λ x. x .answer) (sym e) in (
+        record {
+          answer-is = a;
+          number-is = ap walkedNumber a;
+          parts-are = h .parts-are ∙ ap (λ x. laid 0 (x .identifier) parts) (sym e);
+          key-is = h .key-is ∙ ap (λ x. laid 0 (x .key) key) (sym e);
+        },
+        h .key-legal,
+      )
