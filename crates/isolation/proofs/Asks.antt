@@ -13,4 +13,4 @@ use Rattle.isolation.proofs.Decisions.{decision-keep}
 
 pub ask-shared : (w : Circle) (t : Tables) (q : Request) → Orderly w t → w .member (q .securityModel) (q .securityName) ≡ true
     → answerOn (circleRows w t) q ≡ answerOn t q
-ask-shared w t q i h = split (legalRequest q) (λ l. rw (l, decision-keep w q t i h)) (λ l. rw l)
+ask-shared w t q i h = split (legalRequest q) (λ l. rw (l, decision-keep w t i q h)) (λ l. rw l)

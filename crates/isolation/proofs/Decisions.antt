@@ -1,8 +1,8 @@
 -- A member's decision goes by the circle's rows.
 -- Step by step: a mapping row of the member is in the circle and maps it to the group; a candidate of the group is in the circle;
 -- the access row chosen is one of the candidates, so its view is chosen or empty, and the rows of a chosen view are in the circle.
--- So each step scans the same rows whether or not the others are there. Assumes nothing.
-use mathlib.Core.Path.{_≡_, refl, ap}
+-- So each of the steps 1 to 4 scans the same rows whether or not the others are there, and step 5 goes by what they come to. Assumes nothing.
+use mathlib.Core.Path.{_≡_, refl, sym, ap, _∙_}
 use mathlib.Core.Bool.{Bool, true, _&&_}
 use mathlib.Core.List.{List, [], _∷_}
 use mathlib.Core.Option.{Option, none, some}
@@ -20,8 +20,8 @@ use Rattle.rows.specs.Tables.{Tables}
 use Rattle.decision_steps.specs.Request.{Request}
 use Rattle.answers.specs.declared.Cause.the-variants.{NoSuchView, NoAccessEntry, NoGroupName}
 use Rattle.decision_steps.specs.Decision.{bearsContext, mapsPrincipal, candidate, ofModel, longestPrefix, highestLevel}
-use Rattle.decision_steps.specs.Decision.{chosenAccess, viewFor, inView, viewRows, orRefused}
-use Rattle.decision_steps.specs.Decision.{ifAny, step5, step4, step3, step2, decision}
+use Rattle.decision_steps.specs.Decision.{chosenAccess, viewFor, inView, viewRows, ifAny, decision, Authority, viewed, orDenied, authority, byAuthority}
+use Rattle.decision_steps.proofs.Parts.{decision-parts}
 use Rattle.isolation.specs.Isolation.{Circle, rowIn, chosenOrEmpty, namesChosen}
 use Rattle.isolation.proofs.Tables.{find-keep}
 use Rattle.isolation.proofs.Circles.{implied, circleRows, rowFits, Orderly}
@@ -44,7 +44,7 @@ chosen-is g group model level context rs a =
     (every-top h (λ r. length (r .contextPrefix)) (ofModel model (keep c rs)) (every-model h model (keep c rs) b)))
 
 module _ (w : Circle) where
-  -- ---- steps 4 and 5
+  -- ---- step 4
 
   view-in : (name : List ℕ) (r : ViewRow) → w .chosen name ≡ true → inView name r ≡ true → rowIn w View r ≡ true
   unfolding inView
@@ -82,17 +82,6 @@ module _ (w : Circle) where
   access-rows model level context rs =
       rw (keep-keep (rowIn w Access) (candidate (w .group) model level context) rs (candidate-in model level context))
 
-  step-3 : (q : Request) (t : Tables) (o : Option AccessRow)
-      → OnSome (λ a. candidate (w .group) (q .securityModel) (q .securityLevel) (q .contextName) a && rowFits w Access a ≡ true) o
-      → orRefused NoAccessEntry o (λ a. step4 (q .variableName) (viewFor (q .viewType) a) (circleRows w t .vacmViewTreeFamilyTable))
-      ≡ orRefused NoAccessEntry o (λ a. step4 (q .variableName) (viewFor (q .viewType) a) (t .vacmViewTreeFamilyTable))
-  step-3 q t none h = refl
-  step-3 q t (some a) h =
-      let i : rowIn w Access a ≡ true = candidate-in (q .securityModel) (q .securityLevel) (q .contextName) a (and-left _ _ h) in
-      let f : rowFits w Access a ≡ true = and-right (candidate (w .group) (q .securityModel) (q .securityLevel) (q .contextName) a) _ h in
-      ap (λ rs. orRefused NoSuchView (ifAny rs) (step5 (q .variableName)))
-      (view-rows (viewFor (q .viewType) a) (t .vacmViewTreeFamilyTable) (view-for (q .viewType) a (implied (rowIn w Access a) _ f i)))
-
   -- ---- step 2
 
   mapping-in : (model : ℕ) (name : List ℕ) (m : MappingRow) → w .member model name ≡ true → mapsPrincipal model name m ≡ true
@@ -103,28 +92,49 @@ module _ (w : Circle) where
       let q : m .securityName ≡ name = same-true _ _ (and-right (eqb (m .securityModel) model) _ (and-left _ _ e)) in
       rw (p, q) h
 
-  module _ (q : Request) (t : Tables) (i : Orderly w t) (h : w .member (q .securityModel) (q .securityName) ≡ true) where
-    step-2 : (o : Option MappingRow)
-        → OnSome (λ m. (mapsPrincipal (q .securityModel) (q .securityName) m ≡ true) × (rowFits w Mapping m ≡ true)) o
-        → orRefused NoGroupName o (λ m. step3 (m .groupName) q (circleRows w t)) ≡ orRefused NoGroupName o (λ m. step3 (m .groupName) q t)
-    step-2 none k = refl
-    step-2 (some m) k =
-        let n : rowIn w Mapping m ≡ true = mapping-in (q .securityModel) (q .securityName) m h (k .0) in
-        let g : m .groupName ≡ w .group = same-true _ _ (and-left _ _ (implied (rowIn w Mapping m) _ (k .1) n)) in
-        let model = q .securityModel in
-        let level = q .securityLevel in
-        let context = q .contextName in
-        rw (g, access-rows model level context (t .vacmAccessTable))
-        (step-3 q t (chosenAccess (w .group) model level context (t .vacmAccessTable))
-        (chosen-is (rowFits w Access) (w .group) model level context (t .vacmAccessTable) (i .accesses .1)))
+  -- ---- steps 1 to 4, and the decision
 
-    -- ---- the decision
+  module _ (t : Tables) (i : Orderly w t) where
+    module _ (model : ℕ) (name : List ℕ) (level view : ℕ) (context : List ℕ) where
+      -- by the views of the circle, or by all
+      step-3 : (o : Option AccessRow) → OnSome (λ a. candidate (w .group) model level context a && rowFits w Access a ≡ true) o
+          → orDenied NoAccessEntry o (λ a. orDenied NoSuchView (ifAny (viewRows (viewFor view a) (circleRows w t .vacmViewTreeFamilyTable))) viewed)
+          ≡ orDenied NoAccessEntry o (λ a. orDenied NoSuchView (ifAny (viewRows (viewFor view a) (t .vacmViewTreeFamilyTable))) viewed)
+      step-3 none h = refl
+      step-3 (some a) h =
+          let n : rowIn w Access a ≡ true = candidate-in model level context a (and-left _ _ h) in
+          let f : rowFits w Access a ≡ true = and-right (candidate (w .group) model level context a) _ h in
+          ap (λ rs. orDenied NoSuchView (ifAny rs) viewed)
+          (view-rows (viewFor view a) (t .vacmViewTreeFamilyTable) (view-for view a (implied (rowIn w Access a) _ f n)))
 
-    pub decision-keep : decision (circleRows w t) q ≡ decision t q
-    unfolding decision
-    decision-keep =
-        let p : MappingRow → Bool = mapsPrincipal (q .securityModel) (q .securityName) in
-        let ms = t .vacmSecurityToGroupTable in
-        rw (find-keep (rowIn w Context) (bearsContext (q .contextName)) (t .vacmContextTable) (λ c e. refl))
-        (rw (find-keep (rowIn w Mapping) p ms (λ m e. mapping-in (q .securityModel) (q .securityName) m h e))
-        (rw (step-2 (find p ms) (find-is p (rowFits w Mapping) ms (i .mappings .1)))))
+      abbrev behind : Tables → MappingRow → Authority
+      behind u m =
+          orDenied NoAccessEntry (chosenAccess (m .groupName) model level context (u .vacmAccessTable)) (λ a.
+          orDenied NoSuchView (ifAny (viewRows (viewFor view a) (u .vacmViewTreeFamilyTable))) viewed)
+
+      module _ (h : w .member model name ≡ true) where
+        step-2 : (o : Option MappingRow) → OnSome (λ m. (mapsPrincipal model name m ≡ true) × (rowFits w Mapping m ≡ true)) o
+            → orDenied NoGroupName o (behind (circleRows w t)) ≡ orDenied NoGroupName o (behind t)
+        step-2 none k = refl
+        step-2 (some m) k =
+            let n : rowIn w Mapping m ≡ true = mapping-in model name m h (k .0) in
+            let g : m .groupName ≡ w .group = same-true _ _ (and-left _ _ (implied (rowIn w Mapping m) _ (k .1) n)) in
+            rw (g, access-rows model level context (t .vacmAccessTable))
+            (step-3 (chosenAccess (w .group) model level context (t .vacmAccessTable))
+            (chosen-is (rowFits w Access) (w .group) model level context (t .vacmAccessTable) (i .accesses .1)))
+
+        pub authority-keep : authority (circleRows w t) model name level view context ≡ authority t model name level view context
+        unfolding authority
+        authority-keep =
+            let p : MappingRow → Bool = mapsPrincipal model name in
+            let ms = t .vacmSecurityToGroupTable in
+            rw (find-keep (rowIn w Context) (bearsContext context) (t .vacmContextTable) (λ c e. refl))
+            (rw (find-keep (rowIn w Mapping) p ms (λ m e. mapping-in model name m h e))
+            (rw (step-2 (find p ms) (find-is p (rowFits w Mapping) ms (i .mappings .1)))))
+
+    pub decision-keep : (q : Request) → w .member (q .securityModel) (q .securityName) ≡ true → decision (circleRows w t) q ≡ decision t q
+    decision-keep q h =
+        decision-parts (circleRows w t) q
+        ∙ ap (byAuthority (q .variableName))
+        (authority-keep (q .securityModel) (q .securityName) (q .securityLevel) (q .viewType) (q .contextName) h)
+        ∙ sym (decision-parts t q)

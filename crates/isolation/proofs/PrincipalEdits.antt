@@ -25,8 +25,8 @@ module _ (w : Circle) (t : Tables) (c : Caller) (e : Edit) where
   judgement-circle : Orderly w t → isMember w c ≡ true → judgement (circleRows w t) c e ≡ judgement t c e
   unfolding judgement
   judgement-circle i m =
-      decision-keep w
-      (asked (c .securityModel) (c .securityName) (c .securityLevel) write [] (instance (e .table) (statusColumn (e .table)) (indexOfEdit e))) t i m
+      decision-keep w t i
+      (asked (c .securityModel) (c .securityName) (c .securityLevel) write [] (instance (e .table) (statusColumn (e .table)) (indexOfEdit e))) m
 
   judged-circle : Orderly w t → isMember w c ≡ true → ofCircle w e ≡ true → principalJudged (circleRows w t) c e ≡ principalJudged t c e
   unfolding principalJudged
