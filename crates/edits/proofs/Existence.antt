@@ -1,15 +1,17 @@
 -- Every call can be made on every store of octets: there is an answer, and a store afterwards, such that the call does just this.
--- A decision request answers by its definition and leaves the store. An edit of a store that is not sound, or by what is not legal, or that is not
--- admitted, is refused and leaves the store; any other is an edit of a sound store by legal bytes (`Existence` of crate `edit_rows`). Assumes nothing.
+-- A decision request and a walk answer by their definitions and leave the store; a walk may be lent no room. An edit of a store that is not sound, or by
+-- what is not legal, or that is not admitted, is refused and leaves the store; any other is an edit of a sound store by legal bytes (`Existence` of crate
+-- `edit_rows`). Assumes nothing.
 use mathlib.Core.Path.{_≡_, refl}
 use mathlib.Core.Bool.{Bool, true, false}
-use mathlib.Core.List.{List}
+use mathlib.Core.List.{List, []}
 use Prim.Native.Nat.{ℕ}
 use Rattle.answers.specs.declared.Decision.{Decision}
 use Rattle.answers.specs.declared.Decision.the-variants.{Allowed, Refused}
 use Rattle.answers.specs.declared.Fault.the-variants.{OutOfRange, ContextTable}
 use Rattle.numbers.proofs.Bools.{split, clash}
 use Rattle.numbers.specs.BigEndian.{Octets}
+use Rattle.numbers.specs.Laid.{laid}
 use Rattle.rows.specs.Tables.{Tables}
 use Rattle.image_layout.specs.Layout.{layoutOf}
 use Rattle.image_judge.specs.Faults.{tablesAt}
@@ -21,9 +23,10 @@ use Rattle.edit_rules.specs.Edits.{Outcome, Edit, Caller, edit, legalEdit, lega
 use Rattle.edit_rows.specs.Promise.{Edits}
 use Rattle.edit_rows.proofs.Stores.{edits-unsound}
 use Rattle.edit_rows.proofs.Existence.{Made, edit-made}
+use Rattle.walk_rules.specs.Walk.{walkIn, handed}
 use Rattle.edits.specs.declared.Prepared.the-variants.{Unready}
 use Rattle.edits.specs.Calls.{ownerEdit, principalEdit, prepared}
-use Rattle.edits.specs.Does.{Call, ask, owner, by, Reply, decided, edited, Does, asks, owns, acts, HandsOctets}
+use Rattle.edits.specs.Does.{Call, ask, owner, by, walk, Reply, decided, edited, walked, Does, asks, owns, acts, walks, HandsOctets}
 use Rattle.edits.proofs.Calls.{ready-whole, unready-owner, unready-principal, owner-legal, caller-illegal, principal-denied, principal-granted}
 
 -- a store that stays
@@ -92,3 +95,9 @@ call-done w b (owner e) d =
     let m = owner-made e d w b in record { reply = edited (m .answered); left = m .left; does = owns (m .promise); octets = m .octets }
 call-done w b (by c e) d =
     let m = principal-made e d w b c in record { reply = edited (m .answered); left = m .left; does = acts (m .promise); octets = m .octets }
+call-done w b (walk c i) d = record {
+  reply = walked (handed (walkIn (held w) c i .answer) (laid 0 (walkIn (held w) c i .identifier) []) (laid 0 (walkIn (held w) c i .key) []));
+  left = w;
+  does = walks (record { answer-is = refl; number-is = refl; parts-are = refl; key-is = refl });
+  octets = b;
+}

@@ -11,8 +11,10 @@ use Rattle.decision_steps.specs.Decision.{ifLegal, answer}
 use Rattle.edit_rules.specs.declared.Edited.{Edited}
 use Rattle.edit_rules.specs.Edits.{Outcome}
 use Rattle.edit_rows.specs.Promise.{answered, left, Edits}
+use Rattle.walk_rules.specs.Walk.{walkOn, walkIn}
+use Rattle.walk_rules.proofs.Handed.{handed-is}
 use Rattle.edits.specs.Calls.{ownerEdit, principalEdit}
-use Rattle.edits.specs.Does.{Call, ask, owner, by, Reply, decided, edited, Does, asks, owns, acts}
+use Rattle.edits.specs.Does.{Call, ask, owner, by, walk, Reply, decided, edited, walked, Does, asks, owns, acts, walks}
 
 abbrev pub stepped : Outcome → Reply × Tables
 stepped o = (edited (o .answer), o .rows)
@@ -21,6 +23,7 @@ unfoldable pub step : Tables → Call → Reply × Tables
 step t (ask q) = (decided (ifLegal (legalRequest q) t q), t)
 step t (owner e) = stepped (ownerEdit t e)
 step t (by c e) = stepped (principalEdit t c e)
+step t (walk c identifier) = (walked (walkOn t c identifier), t)
 
 -- ---- a call on a store that holds tables
 
@@ -34,3 +37,4 @@ unfolding step
 does-step t (asks {q = q} d) e = (ap decided (d .answer-is ∙ ap (λ o. answer o q) e), e)
 does-step t (owns {e = a} d) e = let h = edits-step (λ u. ownerEdit u a) _ _ t _ d e in (ap edited (h .0), h .1)
 does-step t (acts {c = c} {e = a} d) e = let h = edits-step (λ u. principalEdit u c a) _ _ t _ d e in (ap edited (h .0), h .1)
+does-step t (walks {c = c} {identifier = i} d) e = (ap walked (handed-is d ∙ ap (λ o. walkIn o c i) e), e)

@@ -12,9 +12,10 @@ use Rattle.image.specs.Store.{held}
 use Rattle.edits.specs.Does.{Call, Reply}
 use Rattle.edits.proofs.Steps.{step, does-step}
 use Rattle.isolation.specs.Isolation.{Told, calls, Run, done, more, Along, Circle, shared, picked, staysInside, insidersEdit, handsSuch, mapsToGroup}
-use Rattle.isolation.specs.Isolation.{givesChosen, findsRoom, othersRefused}
+use Rattle.isolation.specs.Isolation.{givesChosen, findsRoom, othersRefused, WalksConfined}
 use Rattle.isolation.proofs.Circles.{circleRows, Orderly}
 use Rattle.isolation.proofs.Steps.{step-shared, step-other, step-orderly}
+use Rattle.isolation.proofs.Walks.{held-legal}
 
 -- ---- a list of calls, each with its answer, and the tables at the end
 
@@ -31,7 +32,7 @@ pub run-trace : {s s′ : List ℕ} {ts : List Told} → Run s ts s′ → (t : 
     → (trace t (calls ts) ≡ ts) × (held s′ ≡ some (final t (calls ts)))
 unfolding trace final
 run-trace done t e = (refl, e)
-run-trace (more {c = c} {r = r} d run) t e =
+run-trace (more {c = c} {r = r} b d run) t e =
     let h = does-step t d e in
     let ih = run-trace run (step t c .1) (h .1) in
     (rw (← (h .0)) (ap (λ (l : List Told). (c, r) ∷ l) (ih .0)), ih .1)
@@ -48,6 +49,7 @@ module _ (w : Circle) where
     pub views-chosen : Each (λ c r. insidersEdit w (handsSuch (givesChosen w)) c) run
     pub never-full : Each (λ c r. insidersEdit w (findsRoom r) c) run
     pub others-refused : Each (λ c r. othersRefused w c r) run
+    pub walks-confined : WalksConfined w run
 
   -- ---- one list, from tables t to the store s
 
@@ -61,7 +63,7 @@ module _ (w : Circle) where
   pub alone : {s s′ : List ℕ} {ts : List Told} (run : Run s ts s′) (t : Tables) → held s ≡ some t → Orderly w t → Kept run → Alone t ts s′
   unfolding trace final
   alone done t e i k = record { tables = t; tables-held = e; orderly = i; answers = refl; rows = refl }
-  alone (more {c = c} {r = r} {ts = ts} d run) t e i k =
+  alone (more {s = s} {c = c} {r = r} {ts = ts} b d run) t e i k =
       let h = does-step t d e in
       let t′ = step t c .1 in
       let o : othersRefused w c (step t c .0) ≡ true = rw (h .0) at (k .others-refused .0) in
@@ -73,10 +75,12 @@ module _ (w : Circle) where
         views-chosen = k .views-chosen .1;
         never-full = k .never-full .1;
         others-refused = k .others-refused .1;
+        walks-confined = k .walks-confined .1;
       } in
       split (shared w c)
       (λ y.
-      let q : step (circleRows w t) c ≡ (step t c .0, circleRows w t′) = step-shared w t c i y (k .members-inside .0) f in
+      let q : step (circleRows w t) c ≡ (step t c .0, circleRows w t′) =
+      step-shared w t c i (held-legal s b e) y (k .members-inside .0) f (k .walks-confined .0 t e) in
       record {
         tables = ih .tables;
         tables-held = ih .tables-held;

@@ -1,9 +1,8 @@
 -- Decision requests beside the circle.
 -- A member's request is told by the circle's rows what it is told by all rows (`Decisions`), and every request leaves the tables. Assumes nothing.
-use mathlib.Core.Path.{_≡_, refl, ap}
+use mathlib.Core.Path.{_≡_}
 use mathlib.Core.Bool.{true}
 use Rattle.rows.specs.Tables.{Tables}
-use Rattle.answers.specs.declared.Answer.{Answer}
 use Rattle.numbers.proofs.Bools.{split}
 use Rattle.decision_steps.specs.Request.{Request, legalRequest}
 use Rattle.decision_steps.specs.Decision.{answerOn}

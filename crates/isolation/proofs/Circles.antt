@@ -2,7 +2,7 @@
 -- Rows of one index have the key fields by which the circle goes: an index leads with each name's length, so that the front of an index
 -- tells the name. Beside it the facts that the members' and the owner's edits keep up: the tables ascend, members are mapped to the group,
 -- and the group's access rows name chosen views or none. Assumes nothing.
-use mathlib.Core.Path.{_≡_, refl, _∙_}
+use mathlib.Core.Path.{_≡_, refl}
 use mathlib.Core.Bool.{Bool, true, false, _&&_}
 use mathlib.Core.List.{List, [], _∷_, _++_}
 use Prim.Native.Nat.{ℕ}

@@ -15,7 +15,7 @@ use Rattle.numbers.proofs.Bools.{split, and-left, and-right}
 use Rattle.numbers.proofs.Orders.{same-true}
 use Rattle.numbers.proofs.Keeps.{every-keep, every-kept, every-both, every-top, keep-keep, first-is, find-is}
 use Rattle.rows.specs.declared.Table.the-variants.{Context, Mapping, Access, View}
-use Rattle.rows.specs.Rows.{ContextRow, MappingRow, AccessRow, ViewRow}
+use Rattle.rows.specs.Rows.{MappingRow, AccessRow, ViewRow}
 use Rattle.rows.specs.Tables.{Tables}
 use Rattle.decision_steps.specs.Request.{Request}
 use Rattle.answers.specs.declared.Cause.the-variants.{NoSuchView, NoAccessEntry, NoGroupName}

@@ -3,10 +3,10 @@
 -- as the edit is, so that the row held is the same; and the circle's rows are no more than all rows, so that where all leave room they do. An edit
 -- outside the circle does not show in its rows. What is refused changes nothing. An edit that fits keeps the tables in order and their rows fitting.
 -- Assumes nothing.
-use mathlib.Core.Path.{_≡_, refl, sym, ap, ap₂, _∙_}
+use mathlib.Core.Path.{_≡_, refl, sym, ap, _∙_}
 use mathlib.Core.Bool.{Bool, true, false, not, _&&_}
 use mathlib.Core.Option.{Option·map}
-use Prim.Native.Nat.{ℕ, _≤_, _<_}
+use Prim.Native.Nat.{_≤_, _<_}
 use native.Mathlib.Omega.{arith}
 use lib.Dec.{eqb, leb}
 use lib.ListN.{length}
@@ -28,7 +28,7 @@ use Rattle.edit_rules.proofs.Outcomes.{row-index}
 use Rattle.edits.specs.Calls.{editedNumber}
 use Rattle.isolation.specs.Isolation.{Circle, rowIn, ofCircle, implies, handsRow, handsSuch, mapsToGroup, givesChosen}
 use Rattle.isolation.proofs.Tables.{length-keep, rowAt-keep, keep-after-in, keep-after-out, ascends-after, every-after}
-use Rattle.isolation.proofs.Circles.{implied, circleRows, rows-circle, with-circle, key-same, rowFits, Fitting, Orderly, orderly-at, orderly-with}
+use Rattle.isolation.proofs.Circles.{implied, circleRows, rows-circle, with-circle, key-same, rowFits, Orderly, orderly-at, orderly-with}
 
 -- ---- an edit once it is judged
 

@@ -1,90 +1,96 @@
 -- Lists of calls, computed: two that differ and meet every condition, and for each condition two that break it alone and are told
--- different things. A list is run on tables, from no rows; any run on a fresh store is told the same (`run-told`). By computation.
+-- different things; lists with walks are in `WalkExamples`. A list is run on tables, from no rows; any run on a fresh store is told the same
+-- (`run-told`). By computation.
 -- The circle: the group "leads", its one member ann (security model 3), the one chosen view "all". Assumes nothing.
 use mathlib.Core.Path.{_≡_, refl, sym, ap, _∙_}
 use mathlib.Core.Bool.{Bool, true, false, _&&_}
 use mathlib.Core.List.{List, [], _∷_, _++_, map}
+use mathlib.Core.Option.{some}
 use Prim.Native.Nat.{ℕ, zero, suc}
 use lib.Dec.{eqb, ltb}
 use native.Mathlib.Omega.{arith}
 use borrow.Author.Tests.{eq-eqb, le-leb, ltb-true}
-use lib.ListN.{length, replicate}
+use lib.ListN.{length, getD, replicate}
 use Rattle.numbers.specs.Lists.{every}
-use Rattle.numbers.proofs.Bools.{and-left, and-right}
+use Rattle.numbers.proofs.Bools.{clash, and-left, and-right}
 use Rattle.numbers.specs.Order.{same, before, begins}
 use Rattle.rows.specs.declared.Table.the-variants.{Context, Mapping, Access, View}
 use Rattle.rows.specs.Fields.{sequenceFault, integerFault, faults, rowBytes}
 use Rattle.rows.specs.Rows.{keyFields, rowFields}
-use Rattle.rows.specs.Tables.{noRows}
+use Rattle.rows.specs.Tables.{Tables, noRows}
 use Rattle.numbers.specs.BigEndian.{Octets}
 use Rattle.image_layout.specs.Layout.{header, laidOut, layoutOf}
 use Rattle.image_judge.specs.Faults.{tableFault, rowsFault, tablesAt}
 use Rattle.image.specs.Store.{room, soundRows, isSound, held}
 use Rattle.decision_steps.specs.Request.{asked, legalRequest}
 use Rattle.decision_steps.specs.Decision.{bearsContext, mapsPrincipal, contextFits, candidate, chosenAccess, viewFor, inView, maskBit, agrees, matches}
-use Rattle.decision_steps.specs.Decision.{chosenView, decision}
+use Rattle.decision_steps.specs.Decision.{chosenView, decision, authority}
 use Rattle.rows.specs.declared.Operation.the-variants.{Put, Remove}
 use Rattle.edit_rules.specs.Edits.{Edit, editOf, Caller, indexOfEdit, legalEdit, mayPut, mayRemove, rowFault, isFull, applied, legalCaller, judgement}
+use Rattle.walk_rules.specs.Walk.{walkOn, legalWalk, nextInstance, follows, mayRead, least}
 use Rattle.edits.specs.Calls.{ownerJudged, ownerEdit, principalJudged, principalEdit}
-use Rattle.edits.specs.Does.{Call, ask, owner, by, Reply, replyNumber, HandsOctets}
+use Rattle.edits.specs.Does.{Call, ask, owner, by, walk, Reply, replyNumber, HandsOctets}
 use Rattle.isolation.specs.Isolation.{Told, calls, Run, done, more, Along, Fresh, Circle, picked, staysInside, insidersEdit, handsSuch, mapsToGroup}
-use Rattle.isolation.specs.Isolation.{givesChosen, findsRoom, othersRefused, Conditions}
-use Rattle.edits.proofs.Steps.{step}
+use Rattle.isolation.specs.Isolation.{givesChosen, findsRoom, othersRefused, Confined, WalksConfined, Conditions}
+use Rattle.edits.proofs.Steps.{step, does-step}
 use Rattle.isolation.specs.Runs.{AllHandOctets, RunOf}
 use Rattle.isolation.proofs.Runs.{every-list-runs}
 use Rattle.isolation.proofs.Alone.{trace, run-trace}
 
 -- ---- names, as octets
 
-abbrev ann : List ℕ
+abbrev pub ann : List ℕ
 ann = 97 ∷ 110 ∷ 110 ∷ []
 
-abbrev cal : List ℕ
+abbrev pub cal : List ℕ
 cal = 99 ∷ 97 ∷ 108 ∷ []
 
-abbrev leads : List ℕ
+abbrev pub leads : List ℕ
 leads = 108 ∷ 101 ∷ 97 ∷ 100 ∷ 115 ∷ []
 
-abbrev train : List ℕ
+abbrev pub train : List ℕ
 train = 116 ∷ 114 ∷ 97 ∷ 105 ∷ 110 ∷ []
 
-abbrev all : List ℕ
+abbrev pub all : List ℕ
 all = 97 ∷ 108 ∷ 108 ∷ []
 
-abbrev base : List ℕ
+abbrev pub base : List ℕ
 base = 98 ∷ 97 ∷ 115 ∷ 101 ∷ []
 
 -- 1.3.6.1, and what is below it
-abbrev internet : List ℕ → List ℕ
+abbrev pub internet : List ℕ → List ℕ
 internet rest = 1 ∷ 3 ∷ 6 ∷ 1 ∷ rest
 
 -- ---- calls
 
-abbrev circle : Circle
+abbrev pub circle : Circle
 circle = record { group = leads; member = λ model name. eqb model 3 && same name ann; chosen = λ name. same name all }
 
-abbrev putContext : List ℕ → Edit
+abbrev pub putContext : List ℕ → Edit
 putContext name = editOf Put Context (rowBytes (rowFields Context) (name ∷ []))
 
-abbrev putMapping : List ℕ → List ℕ → Edit
+abbrev pub putMapping : List ℕ → List ℕ → Edit
 putMapping name group = editOf Put Mapping (rowBytes (rowFields Mapping) ((3 ∷ []) ∷ name ∷ group ∷ (3 ∷ []) ∷ (1 ∷ []) ∷ []))
 
 abbrev removeMapping : List ℕ → Edit
 removeMapping name = editOf Remove Mapping (rowBytes (keyFields Mapping) ((3 ∷ []) ∷ name ∷ []))
 
 -- of any context, any model, level 1 and above
-abbrev putAccess : List ℕ → List ℕ → List ℕ → List ℕ → Edit
+abbrev pub putAccess : List ℕ → List ℕ → List ℕ → List ℕ → Edit
 putAccess group read write notify =
     editOf Put Access
     (rowBytes (rowFields Access)
     (group ∷ [] ∷ (0 ∷ []) ∷ (1 ∷ []) ∷ (2 ∷ []) ∷ read ∷ write ∷ notify ∷ (3 ∷ []) ∷ (1 ∷ []) ∷ []))
 
 -- type 1 is included, 2 excluded
-abbrev putView : List ℕ → List ℕ → ℕ → Edit
-putView name subtree type =
-    editOf Put View (rowBytes (rowFields View) (name ∷ subtree ∷ [] ∷ (type ∷ []) ∷ (3 ∷ []) ∷ (1 ∷ []) ∷ []))
+abbrev pub putFamily : List ℕ → List ℕ → List ℕ → ℕ → Edit
+putFamily name subtree mask type =
+    editOf Put View (rowBytes (rowFields View) (name ∷ subtree ∷ mask ∷ (type ∷ []) ∷ (3 ∷ []) ∷ (1 ∷ []) ∷ []))
 
-abbrev principal : List ℕ → Caller
+abbrev pub putView : List ℕ → List ℕ → ℕ → Edit
+putView name subtree type = putFamily name subtree [] type
+
+abbrev pub principal : List ℕ → Caller
 principal name = record { securityModel = 3; securityName = name; securityLevel = 2 }
 
 -- ann asks, in the empty context: viewType 1 is read, 2 write, 3 notify
@@ -93,51 +99,76 @@ annAsks viewType = ask (asked 3 ann 2 viewType [] (internet (2 ∷ 1 ∷ [])))
 
 -- ---- what a list is told, from no rows, and whether it meets the conditions
 
-pub tells : List Call → List Told
+unfoldable pub tells : List Call → List Told
 unfolding trace step ownerEdit ownerJudged principalEdit principalJudged judgement legalEdit legalCaller rowFault isFull applied mayPut mayRemove
     indexOfEdit keyFields rowFields faults sequenceFault integerFault legalRequest decision bearsContext mapsPrincipal contextFits candidate
-    chosenAccess viewFor inView maskBit agrees matches chosenView same before begins
+    chosenAccess viewFor inView maskBit agrees matches chosenView same before begins walkOn legalWalk authority nextInstance follows mayRead least
 tells cs = trace noRows cs
 
-abbrev numbers : List Told → List ℕ
+abbrev pub numbers : List Told → List ℕ
 numbers ts = map (λ (t : Told). replyNumber (t .1)) ts
 
--- members-inside, members-grouped, views-chosen, never-full, others-refused
-abbrev meets : List Told → List Bool
+abbrev pub noWalk : Call → Bool
+noWalk (ask q) = true
+noWalk (owner e) = true
+noWalk (by c e) = true
+noWalk (walk c identifier) = false
+
+-- members-inside, members-grouped, views-chosen, never-full, others-refused; and that nobody walks, so that walks-confined asks nothing
+abbrev pub meets : List Told → List Bool
 meets ts =
     every (λ (t : Told). staysInside circle (t .0)) ts
     ∷ every (λ (t : Told). insidersEdit circle (handsSuch (mapsToGroup circle)) (t .0)) ts
     ∷ every (λ (t : Told). insidersEdit circle (handsSuch (givesChosen circle)) (t .0)) ts
     ∷ every (λ (t : Told). insidersEdit circle (findsRoom (t .1)) (t .0)) ts
     ∷ every (λ (t : Told). othersRefused circle (t .0) (t .1)) ts
+    ∷ every (λ (t : Told). noWalk (t .0)) ts
     ∷ []
 
+abbrev pub fiveMet : Bool → List Bool
+fiveMet still = true ∷ true ∷ true ∷ true ∷ true ∷ still ∷ []
+
 abbrev allMet : List Bool
-allMet = true ∷ true ∷ true ∷ true ∷ true ∷ []
+allMet = fiveMet true
 
 -- all but one
 abbrev notInside : List Bool
-notInside = false ∷ true ∷ true ∷ true ∷ true ∷ []
+notInside = false ∷ true ∷ true ∷ true ∷ true ∷ true ∷ []
 
 abbrev notGrouped : List Bool
-notGrouped = true ∷ false ∷ true ∷ true ∷ true ∷ []
+notGrouped = true ∷ false ∷ true ∷ true ∷ true ∷ true ∷ []
 
 abbrev notChosen : List Bool
-notChosen = true ∷ true ∷ false ∷ true ∷ true ∷ []
+notChosen = true ∷ true ∷ false ∷ true ∷ true ∷ true ∷ []
 
 abbrev onceFull : List Bool
-onceFull = true ∷ true ∷ true ∷ false ∷ true ∷ []
+onceFull = true ∷ true ∷ true ∷ false ∷ true ∷ true ∷ []
 
 abbrev onceAccepted : List Bool
-onceAccepted = true ∷ true ∷ true ∷ true ∷ false ∷ []
+onceAccepted = true ∷ true ∷ true ∷ true ∷ false ∷ true ∷ []
 
 -- two lists with the same shared calls, which conditions each of them meets, and what the shared calls are told in each
-record Shown (xs ys : List Call) (x y : List Bool) (a b : List ℕ) : Type 0 where
-  same-calls : calls (picked circle (tells xs)) ≡ calls (picked circle (tells ys))
-  one-meets : meets (tells xs) ≡ x
-  other-meets : meets (tells ys) ≡ y
-  one-told : numbers (picked circle (tells xs)) ≡ a
-  other-told : numbers (picked circle (tells ys)) ≡ b
+pub record Shown (xs ys : List Call) (x y : List Bool) (a b : List ℕ) : Type 0 where
+  pub same-calls : calls (picked circle (tells xs)) ≡ calls (picked circle (tells ys))
+  pub one-meets : meets (tells xs) ≡ x
+  pub other-meets : meets (tells ys) ≡ y
+  pub one-told : numbers (picked circle (tells xs)) ≡ a
+  pub other-told : numbers (picked circle (tells ys)) ≡ b
+
+-- walks-confined along a list, by the tables that each call finds
+abbrev pub ConfinedAll : Tables → List Call → Type 0
+ConfinedAll t [] = Unit {0}
+ConfinedAll t (c ∷ cs) = Confined circle t c × ConfinedAll (step t c .1) cs
+
+pub confined-one : (t : Tables) (c : Call) → noWalk c ≡ true → Confined circle t c
+confined-one t (ask q) h = tt
+confined-one t (owner e) h = tt
+confined-one t (by c e) h = tt
+confined-one t (walk c identifier) h = clash h refl
+
+confined-none : (t : Tables) (cs : List Call) → every noWalk cs ≡ true → ConfinedAll t cs
+confined-none t [] h = tt
+confined-none t (c ∷ cs) h = (confined-one t c (and-left _ _ h), confined-none (step t c .1) cs (and-right (noWalk c) _ h))
 
 -- the owner sets up the circle
 abbrev start : List Call
@@ -279,23 +310,36 @@ run-told f run cs e = sym (run-trace run noRows f .0) ∙ ap (trace noRows) e
 along-every : (test : Call → Reply → Bool) {s s′ : List ℕ} {ts : List Told} (run : Run s ts s′) → every (λ (t : Told). test (t .0) (t .1)) ts ≡ true
     → Along (λ found c r. test c r ≡ true) run
 along-every test done h = tt
-along-every test (more {c = c} {r = r} d run) h = (and-left _ _ h, along-every test run (and-right (test c r) _ h))
+along-every test (more {c = c} {r = r} b d run) h = (and-left _ _ h, along-every test run (and-right (test c r) _ h))
 
--- so that every two runs of these lists meet the conditions
+-- walks that are confined by the tables are so along the run
+along-confined : {s s′ : List ℕ} {ts : List Told} (run : Run s ts s′) (t : Tables) → held s ≡ some t → ConfinedAll t (calls ts) → WalksConfined circle run
+along-confined done t e k = tt
+along-confined (more {c = c} b d run) t e k =
+    (λ u h. let q : some u ≡ some t = sym h ∙ e in let z : u ≡ t = cc in rw z (k .0), along-confined run (step t c .1) (does-step t d e .1) (k .1))
+
+-- so that every two runs of such lists meet the conditions
+pub conditions-shown : {cs ds : List Call} {still : Bool} {a b : List ℕ} → Shown cs ds (fiveMet still) (fiveMet still) a b
+    → ConfinedAll noRows cs → ConfinedAll noRows ds
+    → {s s′ t t′ : List ℕ} {xs ys : List Told} → Fresh s → Fresh t → (p : Run s xs s′) (q : Run t ys t′) → calls xs ≡ cs → calls ys ≡ ds → Conditions circle p q
+conditions-shown {cs} {ds} {still} h k l {xs = xs} {ys = ys} f g p q d e =
+    let x : tells cs ≡ xs = sym (run-told f p cs d) in
+    let y : tells ds ≡ ys = sym (run-told g q ds e) in
+    let m : (i : ℕ) → getD (meets xs) i false ≡ getD (fiveMet still) i false = λ i. ap (λ l. getD l i false) (rw x at (h .one-meets)) in
+    let n : (i : ℕ) → getD (meets ys) i false ≡ getD (fiveMet still) i false = λ i. ap (λ l. getD l i false) (rw y at (h .other-meets)) in
+    record {
+      same-calls = rw (x, y) at (h .same-calls);
+      members-inside = (along-every _ p (m 0), along-every _ q (n 0));
+      members-grouped = (along-every _ p (m 1), along-every _ q (n 1));
+      views-chosen = (along-every _ p (m 2), along-every _ q (n 2));
+      never-full = (along-every _ p (m 3), along-every _ q (n 3));
+      others-refused = (along-every _ p (m 4), along-every _ q (n 4));
+      walks-confined = (along-confined p noRows f (rw d k), along-confined q noRows g (rw e l));
+    }
+
 pub conditions-met : {s s′ t t′ : List ℕ} {xs ys : List Told} → Fresh s → Fresh t → (p : Run s xs s′) (q : Run t ys t′)
     → calls xs ≡ quiet → calls ys ≡ busy → Conditions circle p q
-unfolding tells
-conditions-met {xs = xs} {ys = ys} f g p q d e =
-    let x : xs ≡ tells quiet = run-told f p quiet d in
-    let y : ys ≡ tells busy = run-told g q busy e in
-    record {
-      same-calls = rw (x, y);
-      members-inside = (along-every _ p (rw x), along-every _ q (rw y));
-      members-grouped = (along-every _ p (rw x), along-every _ q (rw y));
-      views-chosen = (along-every _ p (rw x), along-every _ q (rw y));
-      never-full = (along-every _ p (rw x), along-every _ q (rw y));
-      others-refused = (along-every _ p (rw x), along-every _ q (rw y));
-    }
+conditions-met = conditions-shown both-told (confined-none noRows quiet refl) (confined-none noRows busy refl)
 
 -- and there are such runs, on every two stores
 octets-every : (v : List ℕ) → every (λ x. ltb x 256) v ≡ true → Octets v
@@ -307,13 +351,15 @@ abbrev handsBytes : Call → Bool
 handsBytes (ask q) = true
 handsBytes (owner e) = every (λ x. ltb x 256) (e .bytes)
 handsBytes (by c e) = every (λ x. ltb x 256) (e .bytes)
+handsBytes (walk c identifier) = true
 
 hands-octets : (c : Call) → handsBytes c ≡ true → HandsOctets c
 hands-octets (ask q) h = tt
 hands-octets (owner e) h = octets-every (e .bytes) h
 hands-octets (by c e) h = octets-every (e .bytes) h
+hands-octets (walk c identifier) h = tt
 
-all-hand-octets : (cs : List Call) → every handsBytes cs ≡ true → AllHandOctets cs
+pub all-hand-octets : (cs : List Call) → every handsBytes cs ≡ true → AllHandOctets cs
 all-hand-octets [] h = tt
 all-hand-octets (c ∷ cs) h = (hands-octets c (and-left _ _ h), all-hand-octets cs (and-right (handsBytes c) _ h))
 

@@ -4,27 +4,25 @@
 -- the row at each of the circle's keys: the circle goes by the key, and a row at such a key is kept. Fresh stores agree. Assumes nothing.
 use mathlib.Core.Path.{_≡_, refl, sym, ap, _∙_}
 use mathlib.Core.Bool.{Bool, true, false, and-true}
-use mathlib.Core.List.{List, [], _∷_}
-use mathlib.Core.Option.{none, some}
+use mathlib.Core.List.{List}
+use mathlib.Core.Option.{some}
 use Prim.Native.Nat.{ℕ}
-use Rattle.numbers.specs.Lists.{keep, every}
-use Rattle.numbers.specs.Order.{same}
-use Rattle.numbers.proofs.Bools.{split, clash, and-left, and-both, or-right, not-is-true}
+use Rattle.numbers.specs.Lists.{keep}
+use Rattle.numbers.proofs.Bools.{split}
 use Rattle.numbers.proofs.Orders.{same-true, same-refl}
 use Rattle.numbers.proofs.Keeps.{every-all, every-imp}
 use Rattle.numbers.proofs.Greatest.{Ascends, ascends-keep}
 use Rattle.numbers.proofs.Ascending.{ascends-same}
-use Rattle.rows.specs.declared.Table.{Table}
 use Rattle.rows.specs.declared.Table.the-variants.{Context, Mapping, Access, View}
 use Rattle.rows.specs.Tables.{Tables, noRows}
 use Rattle.image.specs.Store.{held}
 use Rattle.table_update.specs.Tables.{rowAt}
-use Rattle.edit_rules.specs.TableRows.{RowOf, rowIndex, rowsOf, contextIndex, mappingIndex, accessIndex, viewIndex, tablesOf}
+use Rattle.edit_rules.specs.TableRows.{contextIndex, mappingIndex, accessIndex, viewIndex}
 use Rattle.edit_rows.proofs.Stores.{held-ascends}
-use Rattle.isolation.specs.Isolation.{Told, calls, Run, Fresh, Circle, rowIn, picked, implies, mapsToGroup, givesChosen, Conditions, Alike, SameRows}
+use Rattle.isolation.specs.Isolation.{Told, calls, Fresh, Circle, rowIn, picked, implies, Alike, SameRows}
 use Rattle.isolation.specs.Isolation.{Isolated, Settled, Agreeing, IsolatedFrom}
 use Rattle.isolation.proofs.Tables.{rowAt-keep, rowAt-unkept}
-use Rattle.isolation.proofs.Circles.{implied, circleRows, mapping-same, access-same, view-same, rowFits, Orderly}
+use Rattle.isolation.proofs.Circles.{circleRows, mapping-same, access-same, view-same, rowFits, Orderly}
 use Rattle.isolation.proofs.Alone.{trace, final, Kept, Alone, alone}
 
 -- ---- equal rows of the circle, key by key, and back
@@ -128,6 +126,7 @@ isolation-from w s t s′ t′ xs ys g rx ry c =
       views-chosen = c .views-chosen .0;
       never-full = c .never-full .0;
       others-refused = c .others-refused .0;
+      walks-confined = c .walks-confined .0;
     } in
     let ky : Kept w ry = record {
       members-inside = c .members-inside .1;
@@ -135,6 +134,7 @@ isolation-from w s t s′ t′ xs ys g rx ry c =
       views-chosen = c .views-chosen .1;
       never-full = c .never-full .1;
       others-refused = c .others-refused .1;
+      walks-confined = c .walks-confined .1;
     } in
     two w (same-circle w y) (c .same-calls)
     (alone w rx (y .one) (y .one-held) (orderly-settled w s (y .one) (y .one-held) (g .one-settled)) kx)

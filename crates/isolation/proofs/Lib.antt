@@ -5,9 +5,11 @@ pub mod Edits
 pub mod Asks
 pub mod OwnerEdits
 pub mod PrincipalEdits
+pub mod Walks
 pub mod Steps
 pub mod Alone
 pub mod Isolation
 pub mod Numbers
 pub mod Runs
 pub mod Examples
+pub mod WalkExamples

@@ -1,17 +1,16 @@
 -- The owner's edits beside the circle.
 -- Of the circle, an owner's edit is judged by the circle's rows as by all rows, and does with them what it does with all. Outside the circle it does
 -- not show in its rows. Assumes nothing.
-use mathlib.Core.Path.{_≡_, refl, ap, _∙_}
+use mathlib.Core.Path.{_≡_, ap, _∙_}
 use mathlib.Core.Bool.{true, false, cond}
 use Rattle.answers.specs.declared.Fault.the-variants.{OutOfRange}
 use Rattle.rows.specs.Tables.{Tables}
-use Rattle.edit_rules.specs.declared.Edited.{Edited}
 use Rattle.edit_rules.specs.declared.Edited.the-variants.{Faulty}
 use Rattle.edit_rules.specs.Edits.{Edit, legalEdit, faulted, settled}
 use Rattle.edits.specs.Calls.{ownerJudged, ownerEdit}
-use Rattle.edits.specs.Does.{owner, edited}
+use Rattle.edits.specs.Does.{edited}
 use Rattle.isolation.specs.Isolation.{Circle, ofCircle, findsRoom}
-use Rattle.isolation.proofs.Circles.{implied, circleRows, Orderly}
+use Rattle.isolation.proofs.Circles.{circleRows, Orderly}
 use Rattle.isolation.proofs.Edits.{circleOf, fault-circle, settled-in, settled-out, fits, settled-orderly}
 
 module _ (w : Circle) (t : Tables) (e : Edit) where

@@ -2,19 +2,17 @@
 -- A member's edit of the circle is judged by the circle's rows as by all rows: the tables' judgement is a decision of the member, and the row held is
 -- the circle's. Another principal's edit of the circle is refused, and so changes nothing; outside the circle it does not show in its rows.
 -- Assumes nothing.
-use mathlib.Core.Path.{_≡_, refl, ap, ap₂, _∙_}
-use mathlib.Core.Bool.{Bool, true, false, cond, not, _&&_}
+use mathlib.Core.Path.{_≡_, ap, ap₂, _∙_}
+use mathlib.Core.Bool.{true, false, cond, not, _&&_}
 use mathlib.Core.List.{[]}
-use lib.Dec.{eqb}
 use Rattle.answers.specs.declared.Fault.the-variants.{OutOfRange, ContextTable}
 use Rattle.numbers.proofs.Bools.{split, not-true}
 use Rattle.rows.specs.Tables.{Tables}
 use Rattle.decision_steps.specs.Request.{asked, write}
 use Rattle.instance_encode.specs.Instances.{instance, statusColumn}
-use Rattle.edit_rules.specs.declared.Edited.{Edited}
 use Rattle.edit_rules.specs.declared.Edited.the-variants.{Faulty}
 use Rattle.edit_rules.specs.Edits.{Edit, Caller, indexOfEdit, legalEdit, legalCaller, isContext, judgement, faulted, settled}
-use Rattle.edits.specs.Calls.{editedNumber, allowed, principalJudged, principalEdit}
+use Rattle.edits.specs.Calls.{allowed, principalJudged, principalEdit}
 use Rattle.edits.specs.Does.{by, edited}
 use Rattle.isolation.specs.Isolation.{Circle, ofCircle, isMember, findsRoom, othersRefused}
 use Rattle.isolation.proofs.Circles.{implied, circleRows, Orderly}

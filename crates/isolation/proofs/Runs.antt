@@ -1,6 +1,6 @@
 -- For every store and every list of calls there is a run: call by call, each on what the one before it left (`Existence` of crate `edits`).
 -- Assumes nothing.
-use mathlib.Core.Path.{_≡_, refl, ap}
+use mathlib.Core.Path.{refl, ap}
 use mathlib.Core.List.{List, [], _∷_}
 use Rattle.edits.specs.Does.{Call}
 use Rattle.edits.proofs.Existence.{Done, call-done}
@@ -15,6 +15,6 @@ every-list-runs s b (c ∷ cs) h =
     record {
       told = (c, d .reply) ∷ r .told;
       end = r .end;
-      run = more (d .does) (r .run);
+      run = more b (d .does) (r .run);
       calls-are = ap (λ (l : List Call). c ∷ l) (r .calls-are);
     }

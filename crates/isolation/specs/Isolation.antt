@@ -1,5 +1,5 @@
 -- Demand 3 of the mission: "Nobody who had no edit accepted inside a group's circle can change what its members are told."
--- Words in quotation marks are the mission's, or document 01's ("The two lists of demand 3") where that is said. "Circle", "member call",
+-- Words in quotation marks are the mission's, or document 01's ("The two lists of demand 3") or 02's where that is said. "Circle", "member call",
 -- "shared calls" and "answer" are document 01's own terms. The calls and what each of them does are those of `edits/specs/Does.antt`: the
 -- propositions that the calls' contracts cite. Assumes nothing.
 use mathlib.Core.Path.{_≡_}
@@ -8,20 +8,23 @@ use mathlib.Core.List.{List, [], _∷_, map}
 use mathlib.Core.Option.{some}
 use Prim.Native.Nat.{ℕ}
 use lib.Dec.{eqb}
+use Rattle.numbers.specs.BigEndian.{Octets}
 use Rattle.numbers.specs.Lists.{keep, every}
 use Rattle.numbers.specs.Order.{same}
 use Rattle.rows.specs.declared.Operation.{Operation}
 use Rattle.rows.specs.declared.Operation.the-variants.{Put, Remove}
 use Rattle.rows.specs.declared.Table.{Table}
 use Rattle.rows.specs.declared.Table.the-variants.{Context, Mapping, Access, View}
-use Rattle.rows.specs.Fields.{values, index}
+use Rattle.rows.specs.Fields.{values, legals, index}
 use Rattle.rows.specs.Rows.{AccessRow, contextKey, mappingKey, accessKey, viewKey, keyFields, fieldAt, numberAt}
 use Rattle.rows.specs.Tables.{Tables, noRows}
 use Rattle.image.specs.Store.{held}
+use Rattle.instance_encode.specs.Instances.{lists, instance}
 use Rattle.table_update.specs.Tables.{rowAt}
 use Rattle.edit_rules.specs.Edits.{Edit, Caller}
 use Rattle.edit_rules.specs.TableRows.{RowOf, rowOf, valuesOf, contextIndex, mappingIndex, accessIndex, viewIndex}
-use Rattle.edits.specs.Does.{Call, ask, owner, by, Reply, replyNumber, Does}
+use Rattle.walk_rules.specs.Walk.{mayRead}
+use Rattle.edits.specs.Does.{Call, ask, owner, by, walk, Reply, replyNumber, Does}
 
 -- ---- "Take every two lists of decision requests and edits, refused ones included, .."
 
@@ -34,14 +37,16 @@ calls ts = map (λ (t : Told). t .0) ts
 
 -- A list, from the store that its first call gets to the store that its last one leaves.
 -- Document 01: "Each later call gets the store that the one before it returned or left, and nobody else writes that store in the meantime."
+-- A store is bytes, as a lent slice holds them.
 pub data Run : List ℕ → List Told → List ℕ → Type 0 where
   done : {s : List ℕ} → Run s [] s
-  more : {s next end : List ℕ} {c : Call} {r : Reply} {ts : List Told} → Does s c r next → Run next ts end → Run s ((c, r) ∷ ts) end
+  more : {s next end : List ℕ} {c : Call} {r : Reply} {ts : List Told} → Octets s → Does s c r next → Run next ts end
+      → Run s ((c, r) ∷ ts) end
 
 -- what holds at each call of a run: of the store that it finds, the call and its answer
 abbrev pub Along : (List ℕ → Call → Reply → Type 0) → {s end : List ℕ} {ts : List Told} → Run s ts end → Type 0
 Along P done = Unit {0}
-Along P (more {s = s} {c = c} {r = r} d run) = P s c r × Along P run
+Along P (more {s = s} {c = c} {r = r} b d run) = P s c r × Along P run
 
 -- ".. each from a fresh store." Document 01: "A fresh store has no rows." It is sound, as every store is that holds tables.
 abbrev pub Fresh : List ℕ → Type 0
@@ -77,11 +82,12 @@ abbrev pub isMember : Circle → Caller → Bool
 isMember w c = w .member (c .securityModel) (c .securityName)
 
 -- Document 01: "A member call is a decision request or an edit made with a member's model and security name, at whatever level."
--- "The shared calls are the member calls and the owner's edits of the circle."
+-- "The shared calls are the member calls and the owner's edits of the circle." Document 02's ticket 1 makes a member's walk one of them.
 abbrev pub shared : Circle → Call → Bool
 shared w (ask q) = w .member (q .securityModel) (q .securityName)
 shared w (owner e) = ofCircle w e
 shared w (by c e) = isMember w c
+shared w (walk c identifier) = isMember w c
 
 -- picked out of a list in order, each with its answer
 abbrev pub picked : Circle → List Told → List Told
@@ -97,12 +103,14 @@ abbrev pub staysInside : Circle → Call → Bool
 staysInside w (ask q) = true
 staysInside w (owner e) = true
 staysInside w (by c e) = implies (isMember w c) (ofCircle w e)
+staysInside w (walk c identifier) = true
 
 -- "Let the members' and the owner's edits of the circle" pass a test:
 abbrev pub insidersEdit : Circle → (Edit → Bool) → Call → Bool
 insidersEdit w test (ask q) = true
 insidersEdit w test (owner e) = implies (ofCircle w e) (test e)
 insidersEdit w test (by c e) = implies (isMember w c && ofCircle w e) (test e)
+insidersEdit w test (walk c identifier) = true
 
 -- the row that an edit is handed passes a test. Document 01: "A removal is handed a key alone and breaks neither" condition.
 abbrev pub handsRow : Operation → Bool
@@ -142,6 +150,23 @@ abbrev pub othersRefused : Circle → Call → Reply → Bool
 othersRefused w (ask q) r = true
 othersRefused w (owner e) r = true
 othersRefused w (by c e) r = implies (not (isMember w c) && ofCircle w e) (not (eqb (replyNumber r) 0))
+othersRefused w (walk c identifier) r = true
+
+-- Document 02, ticket 1: "when the member's view refuses every instance outside the circle, held or not": of every table, legal key and listed
+-- column, by the tables that the walk finds
+abbrev pub RefusesOutside : Circle → Tables → Caller → Type 0
+RefusesOutside w ts c =
+    (t : Table) (key : List (List ℕ)) (column : ℕ) → legals (keyFields t) key ≡ true → lists t column ≡ true → keyIn w t key ≡ false
+    → mayRead ts c (instance t column (index (keyFields t) key)) ≡ false
+
+abbrev pub Confined : Circle → Tables → Call → Type 0
+Confined w ts (ask q) = Unit {0}
+Confined w ts (owner e) = Unit {0}
+Confined w ts (by c e) = Unit {0}
+Confined w ts (walk c identifier) = isMember w c ≡ true → RefusesOutside w ts c
+
+abbrev pub WalksConfined : Circle → {s end : List ℕ} {ts : List Told} → Run s ts end → Type 0
+WalksConfined w run = Along (λ found c r. (ts : Tables) → held found ≡ some ts → Confined w ts c) run
 
 -- ---- the conditions on two lists
 
@@ -162,6 +187,8 @@ pub record Conditions (w : Circle) {s t s′ t′ : List ℕ} {xs ys : List Told
   pub never-full : InBoth (λ c r. insidersEdit w (findsRoom r) c) rx ry
   -- "Let other principals have no edit accepted in the circle in either list."
   pub others-refused : InBoth (λ c r. othersRefused w c r) rx ry
+  -- Document 02: "A member's walk comes under the circle's promise when the member's view refuses every instance outside the circle, held or not."
+  pub walks-confined : WalksConfined w rx × WalksConfined w ry
 
 -- ---- "Then each member call and each owner's edit of the circle has the same answer in both lists, and the circle's rows end equal."
 
