@@ -32,7 +32,7 @@ use Rattle.text_values.specs.Texts.{decimalText, dotsText, dottedText}
 use Rattle.text_rows.specs.RowText.{keyText}
 use Rattle.text_values.proofs.Digits.{length-decimal}
 use Rattle.text_rows.proofs.TextLength.{length-key}
-use Rattle.call_answers.specs.Answers.{parts, oidText, instanceWord, faultText, instanceText, instanceOf, decodedText, answerRoom}
+use Rattle.call_answers.specs.Answers.{parts, oidText, instanceWord, faultText, instanceText, columnKeyOf, decodedText, answerRoom}
 
 -- ---- an instance encoded
 
@@ -43,7 +43,7 @@ dots-short (x ∷ xs) =
     let ih : length (dotsText xs) ≤ 21 * length xs = dots-short xs in
     omega (arith, length-append (decimalText x) (dotsText xs), length-decimal x)
 
-dotted-short : (xs : List ℕ) → length (dottedText xs) ≤ 21 * length xs + 20
+pub dotted-short : (xs : List ℕ) → length (dottedText xs) ≤ 21 * length xs + 20
 unfolding dottedText
 dotted-short [] = omega arith
 dotted-short (x ∷ xs) = omega (arith, dots-short xs, length-append (decimalText x) (dotsText xs), length-decimal x)
@@ -104,17 +104,10 @@ module _ (t : Table) (column : ℕ) (key found after : List ℕ) {r : Written} (
 
 -- ---- an instance decoded
 
-pub instance-short : (t : Table) (column : ℕ) (key : List ℕ) → Octets key → faults (keyFields t) key ≡ none
-    → length (instanceOf t column key) ≤ answerRoom
-instance-short t column key b h =
-    let k : List ℕ = keyText t (values (keyFields t) key) in
-    omega (
-      arith,
-      length-append instanceWord (decimalText column ++ (32 ∷ k)),
-      length-append (decimalText column) (32 ∷ k),
-      length-decimal column,
-      length-key t key b h,
-    )
+pub column-key-short : (t : Table) (column : ℕ) (key : List ℕ) → Octets key → faults (keyFields t) key ≡ none
+    → length (columnKeyOf t column key) ≤ 921
+column-key-short t column key b h =
+    omega (arith, length-append (decimalText column) (32 ∷ keyText t (values (keyFields t) key)), length-decimal column, length-key t key b h)
 
 column-fields : (t : Table) (v : List ℕ) (d : Reading) → readColumn t v ≡ some d → values (keyFields (d .table)) (keyBytes d) ≡ d .fields
 unfolding readColumn
@@ -134,7 +127,7 @@ read-fields oid d e =
 pub record Handed (oid after : List ℕ) (t : Table) (column n : ℕ) : Type 0 where
   pub key-room : n ≤ length after
   pub key-sound : faults (keyFields t) (take (n - 0) after) ≡ none
-  pub text-is : instanceOf t column (take (n - 0) after) ≡ decodedText (readInstance oid)
+  pub text-is : instanceWord ++ columnKeyOf t column (take (n - 0) after) ≡ decodedText (readInstance oid)
 
 module _ (oid found after : List ℕ) where
   module _ (d : Reading) (q : readInstance oid ≡ some d) (b : after ≡ keyBytes d ++ drop (length (keyBytes d)) found) where

@@ -1,9 +1,8 @@
 -- The text of each answer, and the room that it takes at most. Assumes nothing.
-use mathlib.Core.Path.{_≡_}
 use mathlib.Core.List.{List, [], _∷_, _++_}
 use mathlib.Core.Option.{Option, none, some}
 use Prim.Native.Nat.{ℕ, _+_, _*_, _≤_}
-use lib.ListN.{length, take}
+use lib.ListN.{length}
 use Rattle.answers.specs.declared.Fault.{Fault}
 use Rattle.answers.specs.declared.Fault.the-variants.{NotSound, NotAnInstance}
 use Rattle.answers.specs.Numbers.{faultNumber}
@@ -42,15 +41,16 @@ encodedText (some f) oid = faultText f
 abbrev pub instanceText : Table → ℕ → List ℕ → List ℕ
 instanceText t column key = encodedText (encodeFault t column key parts) (instance t column (indexOf t key))
 
+-- a column, a space, the fields of a key; the key by its bytes
 abbrev pub columnKey : Table → ℕ → List (List ℕ) → List ℕ
-columnKey t column fields = instanceWord ++ (decimalText column ++ (32 ∷ keyText t fields))
+columnKey t column fields = decimalText column ++ (32 ∷ keyText t fields)
 
-abbrev pub instanceOf : Table → ℕ → List ℕ → List ℕ
-instanceOf t column key = columnKey t column (values (keyFields t) key)
+abbrev pub columnKeyOf : Table → ℕ → List ℕ → List ℕ
+columnKeyOf t column key = columnKey t column (values (keyFields t) key)
 
 abbrev pub decodedText : Option Reading → List ℕ
 decodedText none = faultText NotAnInstance
-decodedText (some d) = columnKey (d .table) (d .column) (d .fields)
+decodedText (some d) = instanceWord ++ columnKey (d .table) (d .column) (d .fields)
 
 abbrev pub imageTextOf : Option Tables → List ℕ
 imageTextOf none = faultText NotSound

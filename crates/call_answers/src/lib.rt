@@ -6,12 +6,16 @@ use instance_decode::Decoded;
 use rows::KEY_MAX;
 use rows::Table;
 ghost use mathlib.Core.Path.{_≡_};
+ghost use mathlib.Core.List.{_++_};
 ghost use mathlib.Core.Option.{none};
+ghost use Prim.Native.Nat.{_+_, _≤_};
+ghost use lib.ListN.{length};
 ghost use Rattle.rows.specs.Fields.{faults};
 ghost use Rattle.rows.specs.Rows.{keyFields};
 ghost use Rattle.image.specs.Store.{held};
 ghost use Rattle.instance_decode.specs.Decoding.{readInstance};
-ghost use Rattle.call_answers.specs.Answers.{faultText, instanceText, instanceOf, decodedText, imageTextOf, Room, Told};
+ghost use Rattle.text_values.specs.Texts.{Puts};
+ghost use Rattle.call_answers.specs.Answers.{faultText, instanceText, instanceWord, columnKeyOf, decodedText, imageTextOf, Room, Told};
 
 // Sub-identifiers enough for every instance: the longest has 110.
 const PARTS: usize = 128;
@@ -45,16 +49,25 @@ pub fn tell_encoded(out: &mut [u8], at: usize, t: Table, column: u32, key: &[u8]
     }
 }
 
+// A column and a key, whose bytes are whole.
+pub fn put_column_key(out: &mut [u8], at: usize, t: Table, column: u32, key: &[u8]) -> usize
+    requires legal { ⌜ faults (keyFields t) (now key) ≡ none ⌝ }
+    requires room { ⌜ at + length (columnKeyOf t column (now key)) ≤ length (now out) ⌝ }
+    ensures { λ r. ⌜ Puts (columnKeyOf t column (now (key .entry))) at (now (out .entry)) (now (out .exit)) r ⌝ }
+{
+    let space = text_values::put_decimal(out, at, column as u64);
+    let next = text_values::put_octet(out, space, b' ');
+    text_rows::put_key(out, next, t, key)
+}
+
 // Tells a column and a key, whose bytes are whole.
 fn tell_instance(out: &mut [u8], at: usize, t: Table, column: u32, key: &[u8]) -> usize
     requires legal { ⌜ faults (keyFields t) (now key) ≡ none ⌝ }
     requires room { ⌜ Room at (now out) ⌝ }
-    ensures { λ r. ⌜ Told (instanceOf t column (now (key .entry))) at (now (out .entry)) (now (out .exit)) r ⌝ }
+    ensures { λ r. ⌜ Told (instanceWord ++ columnKeyOf t column (now (key .entry))) at (now (out .entry)) (now (out .exit)) r ⌝ }
 {
-    let a = text_values::put_text(out, at, b"instance ");
-    let b = text_values::put_decimal(out, a, column as u64);
-    let c = text_values::put_octet(out, b, b' ');
-    text_rows::put_key(out, c, t, key)
+    let next = text_values::put_text(out, at, b"instance ");
+    put_column_key(out, next, t, column, key)
 }
 
 // Tells which column and key an object identifier is the instance of, or that it is none.
