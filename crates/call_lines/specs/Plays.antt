@@ -9,11 +9,12 @@ use Rattle.answers.specs.declared.Fault.the-variants.{OutOfRange}
 use Rattle.image.specs.Store.{held}
 use Rattle.decision_match.specs.Matches.{viewChoice, accessChoice}
 use Rattle.instance_decode.specs.Decoding.{readInstance}
-use Rattle.edits.specs.Does.{Call, Reply, replyNumber, Does}
+use Rattle.edits.specs.Does.{Call, Reply, decided, edited, walked, replyNumber, Does}
 use Rattle.text_values.specs.Texts.{decimalText, Puts}
 use Rattle.call_verbs.specs.Calls.{Asked, calls, encodes, decodes, images, matchesView, matchesAccess}
 use Rattle.call_answers.specs.Answers.{faultText, instanceText, decodedText, imageTextOf, answerRoom, Told}
 use Rattle.call_matches.specs.Texts.{viewMatchText, accessMatchText}
+use Rattle.call_walks.specs.Texts.{walkText}
 
 -- ---- a line played
 
@@ -22,11 +23,17 @@ pub record Tells (told found after text : List ℕ) : Type 0 where
   pub text-is : text ≡ told
   pub store-stays : after ≡ found
 
--- a call on a store: what it does, and its answer's number
+-- what is told of a reply: of a walk all that it hands back, of any other call its number
+abbrev pub replyText : Reply → List ℕ
+replyText (decided a) = decimalText (replyNumber (decided a))
+replyText (edited r) = decimalText (replyNumber (edited r))
+replyText (walked w) = walkText w
+
+-- a call on a store: what it does, and its reply
 pub record CallTells (call : Call) (found after text : List ℕ) : Type 0 where
   pub reply : Reply
   pub does : Does found call reply after
-  pub text-is : text ≡ decimalText (replyNumber reply)
+  pub text-is : text ≡ replyText reply
 
 unfoldable pub Plays : Option Asked → (found after text : List ℕ) → Type 0
 Plays none found after text = Tells (faultText OutOfRange) found after text

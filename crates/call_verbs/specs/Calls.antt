@@ -1,7 +1,7 @@
 -- A line of the program `trycalls`, read as what it asks for:
 --
 --     decide MODEL LEVEL KIND NAME CONTEXT VARIABLE
---     owner EDIT               principal MODEL NAME LEVEL EDIT
+--     owner EDIT               principal MODEL NAME LEVEL EDIT               walk MODEL NAME LEVEL OID
 --     encode COLUMN KEY        decode OID        image
 --     match view NAME VARIABLE                   match access GROUP CONTEXT MODEL LEVEL
 --
@@ -17,8 +17,8 @@ use Rattle.numbers.specs.Lists.{find}
 use Rattle.numbers.specs.Order.{same}
 use Rattle.rows.specs.declared.Table.{Table}
 use Rattle.rows.specs.declared.Table.the-variants.{Access, View}
-use Rattle.edit_rules.specs.Edits.{callerOf}
-use Rattle.edits.specs.Does.{Call, ask, owner, by}
+use Rattle.edit_rules.specs.Edits.{Caller, callerOf}
+use Rattle.edits.specs.Does.{Call, ask, owner, by, walk}
 use Rattle.text_words.specs.Words.{longest, words}
 use Rattle.text_rows.specs.TableWords.{tableWord}
 use Rattle.line_fields.specs.declared.Kind.{Kind}
@@ -26,11 +26,11 @@ use Rattle.line_fields.specs.declared.Kind.the-variants.{Number, Name, Identifi
 use Rattle.line_fields.specs.Kinds.{Value, valueAt, partsAt, numberAt, editAt, valuesSaid}
 use Rattle.line_fields.specs.Requests.{requestKinds, requestOf}
 use Rattle.call_verbs.specs.declared.Verb.{Verb}
-use Rattle.call_verbs.specs.declared.Verb.the-variants.{Decide, Owner, Principal, Encode, Decode, Image, MatchView, MatchAccess, Unknown}
+use Rattle.call_verbs.specs.declared.Verb.the-variants.{Decide, Owner, Principal, Encode, Decode, Image, MatchView, MatchAccess, Walk, Unknown}
 
 -- ---- the words that name what a line asks for
 
--- the last of its words: decide, owner, principal, encode, decode, image, or a table's; no word names the unknown
+-- the last of its words: decide, owner, principal, encode, decode, image, a table's, walk; no word names the unknown
 abbrev pub verbWord : Verb → List ℕ
 verbWord Decide = 100 ∷ 101 ∷ 99 ∷ 105 ∷ 100 ∷ 101 ∷ []
 verbWord Owner = 111 ∷ 119 ∷ 110 ∷ 101 ∷ 114 ∷ []
@@ -40,11 +40,12 @@ verbWord Decode = 100 ∷ 101 ∷ 99 ∷ 111 ∷ 100 ∷ 101 ∷ []
 verbWord Image = 105 ∷ 109 ∷ 97 ∷ 103 ∷ 101 ∷ []
 verbWord MatchView = tableWord View
 verbWord MatchAccess = tableWord Access
+verbWord Walk = 119 ∷ 97 ∷ 108 ∷ 107 ∷ []
 verbWord Unknown = []
 
 -- those of one word
 abbrev pub verbs : List Verb
-verbs = Decide ∷ Owner ∷ Principal ∷ Encode ∷ Decode ∷ Image ∷ []
+verbs = Decide ∷ Owner ∷ Principal ∷ Encode ∷ Decode ∷ Image ∷ Walk ∷ []
 
 -- those of two, the first of which is `match`
 abbrev pub matchVerbs : List Verb
@@ -87,6 +88,7 @@ kindsOf Decode = Identifier ∷ []
 kindsOf Image = []
 kindsOf MatchView = Name ∷ Identifier ∷ []
 kindsOf MatchAccess = Name ∷ Name ∷ Number ∷ Number ∷ []
+kindsOf Walk = Number ∷ Name ∷ Number ∷ Identifier ∷ []
 kindsOf Unknown = []
 
 -- a call on a store (`edits/specs/Does.antt`), an instance of a table, a column and a key, an identifier that may be one, the image, the row
@@ -99,15 +101,20 @@ pub data Asked : Type 0 where
   matchesView : (name variable : List ℕ) → Asked
   matchesAccess : (group context : List ℕ) (model level : ℕ) → Asked
 
+-- a principal's model, name and level come first
+abbrev pub callerAt : List Value → Caller
+callerAt vs = callerOf (numberAt 0 vs) (partsAt 1 vs) (numberAt 2 vs)
+
 abbrev pub meaning : Verb → List Value → Option Asked
 meaning Decide vs = some (calls (ask (requestOf vs)))
 meaning Owner vs = some (calls (owner (editAt 0 vs)))
-meaning Principal vs = some (calls (by (callerOf (numberAt 0 vs) (partsAt 1 vs) (numberAt 2 vs)) (editAt 3 vs)))
+meaning Principal vs = some (calls (by (callerAt vs) (editAt 3 vs)))
 meaning Encode vs = some (encodes (valueAt 1 vs .table) (numberAt 0 vs) (partsAt 1 vs))
 meaning Decode vs = some (decodes (partsAt 0 vs))
 meaning Image vs = some images
 meaning MatchView vs = some (matchesView (partsAt 0 vs) (partsAt 1 vs))
 meaning MatchAccess vs = some (matchesAccess (partsAt 0 vs) (partsAt 1 vs) (numberAt 2 vs) (numberAt 3 vs))
+meaning Walk vs = some (calls (walk (callerAt vs) (partsAt 3 vs)))
 meaning Unknown vs = none
 
 abbrev pub phraseSaid : Phrase → Option Asked

@@ -21,6 +21,7 @@ pub enum Verb {
     Image,
     MatchView,
     MatchAccess,
+    Walk,
     Unknown,
 }
 
@@ -30,13 +31,14 @@ pub enum Verb {
 fn verb_named(word: &[u8]) -> Verb
     ensures { λ r. ⌜ r ≡ verbNamed verbs (now (word .entry)) ⌝ }
 {
-    match text_words::place_of(word, b"decide owner principal encode decode image") {
+    match text_words::place_of(word, b"decide owner principal encode decode image walk") {
         0 => Verb::Decide,
         1 => Verb::Owner,
         2 => Verb::Principal,
         3 => Verb::Encode,
         4 => Verb::Decode,
         5 => Verb::Image,
+        6 => Verb::Walk,
         _ => Verb::Unknown,
     }
 }
@@ -131,6 +133,14 @@ pub fn kinds_of(v: Verb) -> [Kind; MOST_FIELDS]
             Kind::Number,
             Kind::Number,
         ],
+        Verb::Walk => [
+            Kind::Number,
+            Kind::Name,
+            Kind::Number,
+            Kind::Identifier,
+            Kind::Number,
+            Kind::Number,
+        ],
         Verb::Unknown => [Kind::Number; MOST_FIELDS],
     }
 }
@@ -148,6 +158,7 @@ pub fn field_count(v: Verb) -> usize
         Verb::Image => 0,
         Verb::MatchView => 2,
         Verb::MatchAccess => 4,
+        Verb::Walk => 4,
         Verb::Unknown => 0,
     }
 }

@@ -3,7 +3,7 @@ use native.Mathlib.Omega.{arith}
 use borrow.Author.Needs.{needs}
 use Rattle.call_answers.proofs.Room.{decimal-short}
 use Rattle.call_lines.specs.Plays.{Plays}
-use Rattle.call_lines.proofs.Plays.{plays-told, plays-call}
+use Rattle.call_lines.proofs.Plays.{plays-told, plays-call, plays-walk}
 use Rattle.call_lines.proofs.play_call.Statement.{statement}
 use Rattle.call_lines.proofs.play_call.Tie as tie
 
@@ -51,20 +51,25 @@ match-access-requires c κs = let e = c .before .before in
     let s = e .before .before .before .before .before .before in
     (rw (e .enum-told8 .given .1) at (s .pre .0), s .pre .1)
 
+walk-requires : tie.Need-walk-requires
+walk-requires c κs = let e = c .before .before in
+    let s = e .before .before .before .before .before .before in
+    (rw (e .enum-told9 .given .1) at (s .pre .0), s .pre .1)
+
 returns : tie.Need-returns
 returns c = let t = c .before .before in
     let d = t .before .before in
-    rw (d .before .before .enum-told .given .1) (plays-call (d .decide .ensures) (t .put-decimal .ensures))
+    rw (d .before .before .enum-told .given .1) (plays-call tt (d .decide .ensures) (t .put-decimal .ensures))
 
 returns-2 : tie.Need-returns-2
 returns-2 c = let t = c .before .before in
     let d = t .before .before .before .before in
-    rw (d .before .before .enum-told2 .given .1) (plays-call (d .edit-as-owner .ensures) (t .put-decimal2 .ensures))
+    rw (d .before .before .enum-told2 .given .1) (plays-call tt (d .edit-as-owner .ensures) (t .put-decimal2 .ensures))
 
 returns-3 : tie.Need-returns-3
 returns-3 c = let t = c .before .before in
     let d = t .before .before .before .before in
-    rw (d .before .before .enum-told3 .given .1) (plays-call (d .edit-as-principal .ensures) (t .put-decimal3 .ensures))
+    rw (d .before .before .enum-told3 .given .1) (plays-call tt (d .edit-as-principal .ensures) (t .put-decimal3 .ensures))
 
 returns-4 : tie.Need-returns-4
 unfolding Plays
@@ -87,8 +92,11 @@ unfolding Plays
 returns-8 c = let t = c .before .before in rw (t .before .before .before .enum-told8 .given .1) (plays-told _ _ (λ only. only) (t .match-access .ensures))
 
 returns-9 : tie.Need-returns-9
+returns-9 c = let t = c .before .before in rw (t .before .before .before .enum-told9 .given .1) (plays-walk (t .walk .ensures))
+
+returns-10 : tie.Need-returns-10
 unfolding Plays
-returns-9 c = let t = c .before .before in rw (t .before .before .enum-told9 .given .1) (plays-told _ _ (λ only. only) (t .tell-fault .ensures))
+returns-10 c = let t = c .before .before in rw (t .before .before .enum-told10 .given .1) (plays-told _ _ (λ only. only) (t .tell-fault .ensures))
 
 pub play-call-spec : {M : Type 1} → statement M
 play-call-spec =
@@ -96,7 +104,8 @@ play-call-spec =
     (tie.spec (λ c. search needs) decide-requires (λ c. search needs) put-decimal-requires (λ c. search needs) edit-as-owner-requires
     (λ c. search needs) put-decimal-requires-2 (λ c. search needs) edit-as-principal-requires (λ c. search needs) put-decimal-requires-3
     (λ c. search needs) encode-requires (λ c. search needs) decode-requires (λ c. search needs) (λ c κs. search needs) (λ c. search needs)
-    match-view-requires (λ c. search needs) match-access-requires (λ c. search needs) (λ c κs. search needs) (λ c. search needs)
-    (λ c. search needs) returns (λ c. search needs) (λ c. search needs) returns-2 (λ c. search needs) (λ c. search needs) returns-3
-    (λ c. search needs) returns-4 (λ c. search needs) returns-5 (λ c. search needs) (λ c. search needs) returns-6 (λ c. search needs)
-    (λ c. search needs) returns-7 (λ c. search needs) (λ c. search needs) returns-8 (λ c. search needs) returns-9)
+    match-view-requires (λ c. search needs) match-access-requires (λ c. search needs) walk-requires (λ c. search needs) (λ c κs. search needs)
+    (λ c. search needs) (λ c. search needs) returns (λ c. search needs) (λ c. search needs) returns-2 (λ c. search needs) (λ c. search needs)
+    returns-3 (λ c. search needs) returns-4 (λ c. search needs) returns-5 (λ c. search needs) (λ c. search needs) returns-6 (λ c. search needs)
+    (λ c. search needs) returns-7 (λ c. search needs) (λ c. search needs) returns-8 (λ c. search needs) (λ c. search needs) returns-9
+    (λ c. search needs) returns-10)
