@@ -11,7 +11,8 @@ use Rattle.text_values.proofs.Digits.{length-decimal}
 use Rattle.text_values.proofs.Puts.{Onward, start, step, last, kept}
 use Rattle.call_verbs.specs.Calls.{Asked}
 use Rattle.call_answers.specs.Answers.{Room}
-use Rattle.call_lines.specs.Plays.{lineRoom, lineText, PutsPlay, PutsLine}
+use Rattle.call_plays.specs.Plays.{PutsPlay}
+use Rattle.call_lines.specs.Lines.{lineRoom, lineText, PutsLine}
 
 line-length : (number : ℕ) (text : List ℕ) → length (lineText number text) ≤ 22 + length text
 line-length number text =

@@ -16,7 +16,8 @@ use Rattle.program_io.proofs.Lines.{kept-one, kept-none, kept-same}
 use Rattle.program_io.proofs.TakenLines.{taken-written, all-written}
 use Rattle.call_verbs.specs.Calls.{lineSaid}
 use Rattle.call_verbs.proofs.Calls.{long-line}
-use Rattle.call_lines.specs.Plays.{Plays, lineText, PutsLine}
+use Rattle.call_plays.specs.Plays.{Plays}
+use Rattle.call_lines.specs.Lines.{lineText, PutsLine}
 use Rattle.trycalls.specs.Runs.{Played, Serves, Answers}
 
 -- ---- lists of lines

@@ -16,7 +16,8 @@ use Rattle.program_io.specs.Lines.{linesOf}
 use Rattle.program_io.specs.Desk.{Moved, OutputFailed, newLine, Writes}
 use Rattle.call_verbs.specs.Calls.{lineSaid}
 use Rattle.request_lines.specs.Report.{told}
-use Rattle.call_lines.specs.Plays.{Plays, lineText}
+use Rattle.call_plays.specs.Plays.{Plays}
+use Rattle.call_lines.specs.Lines.{lineText}
 
 -- ---- lines played one after the other
 

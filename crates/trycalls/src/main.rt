@@ -8,7 +8,7 @@ use request_lines::MOST_TOLD;
 use text_words::LONGEST_LINE;
 ghost use Prim.Native.Nat.{_≤_};
 ghost use lib.ListN.{length};
-ghost use Rattle.call_lines.specs.Plays.{lineRoom};
+ghost use Rattle.call_lines.specs.Lines.{lineRoom};
 ghost use Rattle.trycalls.specs.Runs.{Answers, Serves, Runs};
 
 // Plays the line that was found, if one was, and writes its number, its answer and a newline.

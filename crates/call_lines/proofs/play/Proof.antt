@@ -1,7 +1,7 @@
 -- `call_lines::play` meets its contract: what is read is what the line says, and each slot lies in its buffer. Assumes nothing.
 use borrow.Author.Needs.{needs}
 use Rattle.call_words.proofs.Calls.{call-held, call-fit}
-use Rattle.call_lines.proofs.Plays.{plays-as}
+use Rattle.call_plays.proofs.Plays.{plays-as}
 use Rattle.call_lines.proofs.play.Statement.{statement}
 use Rattle.call_lines.proofs.play.Tie as tie
 

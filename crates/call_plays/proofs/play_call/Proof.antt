@@ -1,11 +1,11 @@
--- `call_lines::play_call` meets its contract: what the word asks for is known in each arm, and what its function answers is told. Assumes nothing.
+-- `call_plays::play_call` meets its contract: what the word asks for is known in each arm, and what its function answers is told. Assumes nothing.
 use native.Mathlib.Omega.{arith}
 use borrow.Author.Needs.{needs}
 use Rattle.call_answers.proofs.Room.{decimal-short}
-use Rattle.call_lines.specs.Plays.{Plays}
-use Rattle.call_lines.proofs.Plays.{plays-told, plays-call, plays-walk}
-use Rattle.call_lines.proofs.play_call.Statement.{statement}
-use Rattle.call_lines.proofs.play_call.Tie as tie
+use Rattle.call_plays.specs.Plays.{Plays}
+use Rattle.call_plays.proofs.Plays.{plays-told, plays-call, plays-walk}
+use Rattle.call_plays.proofs.play_call.Statement.{statement}
+use Rattle.call_plays.proofs.play_call.Tie as tie
 
 abbrev start : tie.After-slice-known2 → tie.Start
 start c = c .before .before .before .before

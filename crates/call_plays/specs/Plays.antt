@@ -1,22 +1,19 @@
 -- What playing a line does: what it is read as, the store afterwards, and the text of the answer. Of a call on a store it is what `Does` says, the
 -- proposition of the isolation theorem. Assumes nothing.
 use mathlib.Core.Path.{_≡_}
-use mathlib.Core.List.{List, [], _∷_, _++_}
+use mathlib.Core.List.{List}
 use mathlib.Core.Option.{Option, none, some}
-use Prim.Native.Nat.{ℕ, _+_, _≤_}
-use lib.ListN.{length}
+use Prim.Native.Nat.{ℕ}
 use Rattle.answers.specs.declared.Fault.the-variants.{OutOfRange}
 use Rattle.image.specs.Store.{held}
 use Rattle.decision_match.specs.Matches.{viewChoice, accessChoice}
 use Rattle.instance_decode.specs.Decoding.{readInstance}
 use Rattle.edits.specs.Does.{Call, Reply, decided, edited, walked, replyNumber, Does}
-use Rattle.text_values.specs.Texts.{decimalText, Puts}
+use Rattle.text_values.specs.Texts.{decimalText}
 use Rattle.call_verbs.specs.Calls.{Asked, calls, encodes, decodes, images, matchesView, matchesAccess}
-use Rattle.call_answers.specs.Answers.{faultText, instanceText, decodedText, imageTextOf, answerRoom, Told}
+use Rattle.call_answers.specs.Answers.{faultText, instanceText, decodedText, imageTextOf, Told}
 use Rattle.call_matches.specs.Texts.{viewMatchText, accessMatchText}
 use Rattle.call_walks.specs.Texts.{walkText}
-
--- ---- a line played
 
 -- what only tells
 pub record Tells (told found after text : List ℕ) : Type 0 where
@@ -52,20 +49,3 @@ pub record PutsPlay (call : Option Asked) (found after : List ℕ) (at : ℕ) (w
   pub text : List ℕ
   pub plays : Plays call found after text
   pub told : Told text at w out r
-
--- ---- the line that is printed
-
--- room for it
-abbrev pub lineRoom : ℕ
-lineRoom = answerRoom + 22
-
--- the line's number, a space, the answer and a newline
-abbrev pub lineText : ℕ → List ℕ → List ℕ
-lineText number text = decimalText number ++ (32 ∷ (text ++ (10 ∷ [])))
-
--- it is put at the front of the buffer
-pub record PutsLine (call : Option Asked) (number : ℕ) (found after w out : List ℕ) (r : ℕ) : Type 0 where
-  pub text : List ℕ
-  pub plays : Plays call found after text
-  pub puts : Puts (lineText number text) 0 w out r
-  pub fits : length (lineText number text) ≤ length w

@@ -11,7 +11,7 @@ use Rattle.call_words.specs.Reading.{Answers}
 use Rattle.call_answers.specs.Answers.{Told}
 use Rattle.call_answers.proofs.Room.{decimal-short}
 use Rattle.call_walks.specs.Texts.{walkText, TellsWalk}
-use Rattle.call_lines.specs.Plays.{Tells, replyText, Plays, PutsPlay}
+use Rattle.call_plays.specs.Plays.{Tells, replyText, Plays, PutsPlay}
 
 -- calls that are told by their numbers
 abbrev Numbered : Call → Type 0
