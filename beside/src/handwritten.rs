@@ -10,6 +10,9 @@ use std::slice::from_raw_parts;
 pub const ROOM: usize = 46_456;
 /// The longest key: a view's name and a subtree.
 pub const KEY_MAX: usize = 290;
+/// The parts of the longest identifier, and its bytes.
+pub const MOST_PARTS: usize = 128;
+const MOST_BYTES: usize = 4 * MOST_PARTS;
 const LIMITS: [usize; 4] = [16, 64, 64, 96];
 const ALL_ROWS: usize = 240;
 const LARGEST_MODEL: u32 = 2_147_483_647;
@@ -324,7 +327,7 @@ fn legal_name(name: &[u8]) -> bool {
 
 #[inline(always)]
 fn legal_variable(parts: usize) -> bool {
-    parts.wrapping_sub(1) < 128
+    parts.wrapping_sub(1) < MOST_PARTS
 }
 
 /// What step 3 asks for besides the group.
@@ -367,7 +370,7 @@ pub fn store_decide(store: &[u8], request: &Request, variable: &[u32]) -> u32 {
     if !in_range(request, variable.len()) {
         return 7;
     }
-    let mut room = [0; 512];
+    let mut room = [0; MOST_BYTES];
     let variable = spell_variable(&mut room, variable);
     // SAFETY: the store was judged, and the request is in range.
     unsafe { decide(store.as_ptr(), &layout, request, variable) }
@@ -375,7 +378,7 @@ pub fn store_decide(store: &[u8], request: &Request, variable: &[u32]) -> u32 {
 
 /// A variable in parts of 4 bytes, as a row has its subtree.
 #[inline(always)]
-fn spell_variable<'a>(room: &'a mut [u8; 512], variable: &[u32]) -> &'a [u8] {
+fn spell_variable<'a>(room: &'a mut [u8; MOST_BYTES], variable: &[u32]) -> &'a [u8] {
     for (place, part) in room.chunks_exact_mut(4).zip(variable) {
         place.copy_from_slice(&part.to_be_bytes());
     }
@@ -400,23 +403,32 @@ unsafe fn name_at<'a>(at: At) -> &'a [u8] {
 /// SAFETY: the rows of the layout were judged, and the request is in range.
 #[inline(always)]
 unsafe fn decide(bytes: At, layout: &Layout, request: &Request, variable: &[u8]) -> u32 {
+    match named_view(bytes, layout, request) {
+        Ok(view) => in_view(bytes, layout, view, variable),
+        Err(cause) => cause,
+    }
+}
+
+/// Steps 1 to 3, and the name of the view for step 4: what is the same for every variable. The error is a cause's number.
+#[inline(always)]
+unsafe fn named_view<'a>(bytes: At, layout: &Layout, request: &Request) -> Result<&'a [u8], u32> {
     let mut room = [0; 40];
     if held(bytes, layout, 0, spell(&mut room, &[], request.context)).is_none() {
-        return 1;
+        return Err(1);
     }
     let key = spell(&mut room, &request.model.to_be_bytes(), request.name);
     let group = match held(bytes, layout, 1, key) {
         Some(place) if is_active(bytes, layout, place) => name_at(bytes.add(layout.start(place) + key.len())),
-        _ => return 2,
+        _ => return Err(2),
     };
     let view = match chosen_access(bytes, layout, group, request.context, request.model, request.level) {
-        None => return 3,
+        None => return Err(3),
         Some(access) => view_name(access, request.kind),
     };
     if view.len() == 1 {
-        return 4;
+        return Err(4);
     }
-    in_view(bytes, layout, view, variable)
+    Ok(view)
 }
 
 /// A row that a step chose: where it begins, and where its key ends.
@@ -584,7 +596,7 @@ pub fn match_view(store: &[u8], name: &[u8], variable: &[u32], key: &mut [u8; KE
     if !legal_name(name) || !legal_variable(variable.len()) {
         return Err(7);
     }
-    let (mut name_room, mut variable_room) = ([0; 40], [0; 512]);
+    let (mut name_room, mut variable_room) = ([0; 40], [0; MOST_BYTES]);
     let view = spell(&mut name_room, &[], name);
     let variable = spell_variable(&mut variable_room, variable);
     let bytes = store.as_ptr();
