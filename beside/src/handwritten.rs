@@ -1,6 +1,6 @@
 //! The same work as the proved code, written by hand for speed, as one would write it in C: on the bytes of a table image where
 //! they lie, by pointers, with no heap. An image is judged in one pass that notes where its rows begin; then rows are found by
-//! bisection, and decided on or edited in their place. The benchmark's other side; nothing else uses it.
+//! bisection, and decided on, walked or edited in their place. The benchmark's other side; nothing else uses it.
 
 use std::mem::MaybeUninit;
 use std::ops::Range;
@@ -625,6 +625,298 @@ pub fn match_access(store: &[u8], group: &[u8], context: &[u8], model: u32, leve
     unsafe {
         let row = chosen_access(store.as_ptr(), &layout, group, context, model, level);
         Ok(row.map(|row| hand_key(row, key)))
+    }
+}
+
+// ---- walking the tables
+
+/// A table's base, and its first column and its last.
+struct Columns {
+    base: &'static [u32],
+    first: u32,
+    last: u32,
+}
+
+const COLUMNS: [Columns; 4] = [
+    Columns { base: &[1, 3, 6, 1, 6, 3, 16, 1, 1, 1], first: 1, last: 1 },
+    Columns { base: &[1, 3, 6, 1, 6, 3, 16, 1, 2, 1], first: 3, last: 5 },
+    Columns { base: &[1, 3, 6, 1, 6, 3, 16, 1, 4, 1], first: 4, last: 9 },
+    Columns { base: &[1, 3, 6, 1, 6, 3, 16, 1, 5, 2, 1], first: 3, last: 6 },
+];
+
+/// An instance handed back: its parts, its table, its column, and the length of its key.
+#[derive(Clone, Copy, Debug, PartialEq, Eq)]
+pub struct Next {
+    pub parts: usize,
+    pub table: u32,
+    pub column: u32,
+    pub key: usize,
+}
+
+/// Where a walk goes on: a column of a table, from a row on.
+#[derive(Clone, Copy)]
+struct Place {
+    table: usize,
+    column: u32,
+    row: usize,
+}
+
+impl Place {
+    #[inline(always)]
+    fn first(layout: &Layout, table: usize) -> Place {
+        Place { table, column: COLUMNS[table].first, row: layout.row[table] }
+    }
+
+    /// Instances ascend by table, by column, then by row.
+    #[inline(always)]
+    fn next_column(self, layout: &Layout) -> Option<Place> {
+        if self.column < COLUMNS[self.table].last {
+            Some(Place { column: self.column + 1, row: layout.row[self.table], ..self })
+        } else if self.table < 3 {
+            Some(Place::first(layout, self.table + 1))
+        } else {
+            None
+        }
+    }
+}
+
+/// The least instance above the identifier that the principal may read in the empty context; a refusal's number is the error.
+#[inline(never)]
+pub fn walk(
+    store: &[u8],
+    model: u32,
+    name: &[u8],
+    level: u32,
+    identifier: &[u32],
+    instance: &mut [u32; MOST_PARTS],
+    key: &mut [u8; KEY_MAX],
+) -> Result<Next, u32> {
+    let mut layout = Layout::new();
+    match judge_store(store, &mut layout) {
+        0 => {}
+        refusal => return Err(refusal),
+    }
+    if !legal_access(&[], model, level) || !legal_name(name) || identifier.len() > MOST_PARTS {
+        return Err(7);
+    }
+    let bytes = store.as_ptr();
+    // SAFETY: the store was judged, and the caller and the identifier are in range.
+    unsafe {
+        let view = named_view(bytes, &layout, &Request { model, name, level, kind: 1, context: &[] })?;
+        let rows = rows_of_view(bytes, &layout, view);
+        if !rows.clone().any(|i| is_active(bytes, &layout, i)) {
+            return Err(4);
+        }
+        let mut place = first_above(bytes, &layout, identifier);
+        while let Some(column) = place {
+            if let Some(next) = read_column(bytes, &layout, column, rows.clone(), view, instance, key) {
+                return Ok(next);
+            }
+            place = column.next_column(&layout);
+        }
+    }
+    Err(17)
+}
+
+/// Whether the identifier is above all instances of the table, by base and column.
+#[inline(always)]
+fn is_passed(columns: &Columns, identifier: &[u32]) -> bool {
+    let (front, behind) = identifier.split_at(identifier.len().min(columns.base.len()));
+    front > columns.base || front == columns.base && behind.first() > Some(&columns.last)
+}
+
+/// Where the instances above the identifier begin.
+#[inline(always)]
+unsafe fn first_above(bytes: At, layout: &Layout, identifier: &[u32]) -> Option<Place> {
+    let table = COLUMNS.iter().position(|columns| !is_passed(columns, identifier))?;
+    match identifier.strip_prefix(COLUMNS[table].base) {
+        Some([column, index @ ..]) if *column >= COLUMNS[table].first => {
+            let mut front = KeyFront { room: [0; MOST_BYTES], length: 0, left: index };
+            // a row whose key is spelled whole is not above the index
+            let above = front.spell(table).err().unwrap_or(true);
+            let row = bound(bytes, layout, table, &front.room[..front.length], above);
+            Some(Place { table, column: *column, row })
+        }
+        _ => Some(Place::first(layout, table)),
+    }
+}
+
+/// The front of a key, as far as an index spells it. An error, where the index ends before the key or has a part that is no octet, says
+/// whether rows with this front are below the index.
+struct KeyFront<'a> {
+    room: [u8; MOST_BYTES],
+    length: usize,
+    left: &'a [u32],
+}
+
+impl<'a> KeyFront<'a> {
+    #[inline(always)]
+    fn spell(&mut self, table: usize) -> Result<(), bool> {
+        match table {
+            0 => self.name(),
+            1 => {
+                self.numbers(1)?;
+                self.name()
+            }
+            2 => {
+                self.name()?;
+                self.name()?;
+                self.numbers(1)?;
+                self.octets(1).map(|_| ())
+            }
+            _ => {
+                self.name()?;
+                let parts = self.octets(1)?;
+                self.numbers(parts)
+            }
+        }
+    }
+
+    #[inline(always)]
+    fn name(&mut self) -> Result<(), bool> {
+        let length = self.octets(1)?;
+        self.octets(length).map(|_| ())
+    }
+
+    /// The next parts, as many of them as there are.
+    #[inline(always)]
+    fn next(&mut self, count: usize) -> &'a [u32] {
+        let (parts, left) = self.left.split_at(count.min(self.left.len()));
+        self.left = left;
+        parts
+    }
+
+    /// The next parts, an octet each: the last of them.
+    #[inline(always)]
+    fn octets(&mut self, count: usize) -> Result<usize, bool> {
+        let parts = self.next(count);
+        let octets = parts.iter().position(|part| *part > 255).unwrap_or(parts.len());
+        for (place, part) in self.room[self.length..].iter_mut().zip(&parts[..octets]) {
+            *place = *part as u8;
+        }
+        self.length += octets;
+        if octets == count {
+            Ok(parts.last().map_or(0, |last| *last as usize))
+        } else {
+            Err(octets < parts.len())
+        }
+    }
+
+    /// The next parts, four bytes each.
+    #[inline(always)]
+    fn numbers(&mut self, count: usize) -> Result<(), bool> {
+        let parts = self.next(count);
+        for (place, part) in self.room[self.length..].chunks_exact_mut(4).zip(parts) {
+            place.copy_from_slice(&part.to_be_bytes());
+        }
+        self.length += 4 * parts.len();
+        if parts.len() == count {
+            Ok(())
+        } else {
+            Err(false)
+        }
+    }
+}
+
+/// The first instance of a column, from a row on, that the view includes.
+#[inline(always)]
+unsafe fn read_column(
+    bytes: At,
+    layout: &Layout,
+    place: Place,
+    view_rows: Range<usize>,
+    view: &[u8],
+    instance: &mut [u32; MOST_PARTS],
+    key: &mut [u8; KEY_MAX],
+) -> Option<Next> {
+    let mut room = [0; MOST_BYTES];
+    let front = spell_front(&mut room, place);
+    for i in place.row..layout.row[place.table + 1] {
+        let row = bytes.add(layout.start(i));
+        let runs = runs(place.table, row);
+        let parts = front + runs.parts();
+        spell_index(room.as_mut_ptr().add(4 * front), row, runs);
+        let variable = &room[..4 * parts];
+        if is_included(bytes, layout, view_rows.clone(), view, variable) {
+            hand_instance(variable, instance);
+            let key = hand_key(Chosen { row, key_end: row.add(runs.bytes()) }, key);
+            return Some(Next { parts, table: place.table as u32, column: place.column, key });
+        }
+    }
+    None
+}
+
+#[inline(always)]
+unsafe fn is_included(bytes: At, layout: &Layout, rows: Range<usize>, view: &[u8], variable: &[u8]) -> bool {
+    deciding_row(bytes, layout, rows, view, variable).is_some_and(|row| family_type(row) == 1)
+}
+
+/// Base and column, in parts of 4 bytes: how many parts.
+#[inline(always)]
+fn spell_front(room: &mut [u8; MOST_BYTES], place: Place) -> usize {
+    let base = COLUMNS[place.table].base;
+    spell_variable(room, base);
+    room[4 * base.len()..4 * base.len() + 4].copy_from_slice(&place.column.to_be_bytes());
+    base.len() + 1
+}
+
+/// How a key lies in its row: octets, numbers of 4 bytes, octets. In its index each of them is a part.
+#[derive(Clone, Copy)]
+struct Runs {
+    octets: usize,
+    numbers: usize,
+    behind: usize,
+}
+
+impl Runs {
+    #[inline(always)]
+    fn parts(self) -> usize {
+        self.octets + self.numbers + self.behind
+    }
+
+    #[inline(always)]
+    fn bytes(self) -> usize {
+        self.octets + 4 * self.numbers + self.behind
+    }
+}
+
+#[inline(always)]
+unsafe fn runs(table: usize, row: At) -> Runs {
+    match table {
+        0 => Runs { octets: name_at(row).len(), numbers: 0, behind: 0 },
+        1 => Runs { octets: 0, numbers: 1, behind: name_at(row.add(4)).len() },
+        2 => {
+            let group = name_at(row).len();
+            Runs { octets: group + name_at(row.add(group)).len(), numbers: 1, behind: 1 }
+        }
+        _ => {
+            let name = name_at(row).len();
+            Runs { octets: name + 1, numbers: *row.add(name) as usize, behind: 0 }
+        }
+    }
+}
+
+/// A row's index in parts of 4 bytes.
+#[inline(always)]
+unsafe fn spell_index(out: *mut u8, row: At, runs: Runs) {
+    let numbers = out.add(4 * runs.octets);
+    spell_octets(out, row, runs.octets);
+    numbers.copy_from_nonoverlapping(row.add(runs.octets), 4 * runs.numbers);
+    spell_octets(numbers.add(4 * runs.numbers), row.add(runs.octets + 4 * runs.numbers), runs.behind);
+}
+
+#[inline(always)]
+unsafe fn spell_octets(out: *mut u8, octets: At, count: usize) {
+    for i in 0..count {
+        out.cast::<u32>().add(i).write_unaligned(u32::from(*octets.add(i)).to_be());
+    }
+}
+
+/// Puts the parts at the front of `instance`.
+#[inline(always)]
+fn hand_instance(variable: &[u8], instance: &mut [u32; MOST_PARTS]) {
+    for (part, bytes) in instance.iter_mut().zip(variable.chunks_exact(4)) {
+        *part = u32::from_be_bytes([bytes[0], bytes[1], bytes[2], bytes[3]]);
     }
 }
 
