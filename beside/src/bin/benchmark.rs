@@ -59,7 +59,7 @@ mod proved {
     #[cfg(feature = "store")]
     pub mod store {
         use super::Request;
-        use beside::handwritten::{KEY_MAX, ROOM};
+        use beside::handwritten::{KEY_MAX, MOST_PARTS, ROOM};
 
         extern "C" {
             fn bench_decide(
@@ -95,6 +95,18 @@ mod proved {
                 level: u32,
                 key: *mut [u8; KEY_MAX],
             ) -> u32;
+            fn bench_walk(
+                store: *const u8,
+                store_len: usize,
+                model: u32,
+                name: *const u8,
+                name_len: usize,
+                level: u32,
+                identifier: *const u32,
+                identifier_len: usize,
+                instance: *mut [u32; MOST_PARTS],
+                key: *mut [u8; KEY_MAX],
+            ) -> usize;
             fn bench_owner_edit(store: *mut u8, store_len: usize, operation: u32, table: u32, bytes: *const u8, bytes_len: usize) -> u32;
             fn bench_read_image(image: *const u8, image_len: usize, store: *mut [u8; ROOM]) -> u32;
             fn bench_write_image(store: *const u8, store_len: usize, out: *mut u8, out_len: usize) -> u64;
@@ -125,6 +137,20 @@ mod proved {
         pub fn match_access(store: &[u8], group: &[u8], context: &[u8], model: u32, level: u32, key: &mut [u8; KEY_MAX]) -> u32 {
             unsafe {
                 bench_match_access(store.as_ptr(), store.len(), group.as_ptr(), group.len(), context.as_ptr(), context.len(), model, level, key)
+            }
+        }
+
+        pub fn walk(
+            store: &[u8],
+            model: u32,
+            name: &[u8],
+            level: u32,
+            identifier: &[u32],
+            instance: &mut [u32; MOST_PARTS],
+            key: &mut [u8; KEY_MAX],
+        ) -> usize {
+            unsafe {
+                bench_walk(store.as_ptr(), store.len(), model, name.as_ptr(), name.len(), level, identifier.as_ptr(), identifier.len(), instance, key)
             }
         }
 
@@ -298,6 +324,21 @@ fn full() -> Tables {
     tables
 }
 
+/// Full tables in which the last principal reads by the view in the empty context. Its rows are all of one type: the first has every
+/// instance below it, the others lie below the view table, with 64 parts each, and match none.
+#[cfg(feature = "store")]
+fn walked(kind: u32) -> Tables {
+    let mut tables = full();
+    tables.contexts[0].name.clear();
+    tables.accesses[63].prefix.clear();
+    for row in &mut tables.views {
+        row.kind = kind;
+        row.subtree[..10].copy_from_slice(&[1, 3, 6, 1, 6, 3, 16, 1, 5, 2]);
+    }
+    tables.views[0].subtree.truncate(8);
+    tables
+}
+
 struct Asked {
     title: &'static str,
     image: Vec<u8>,
@@ -390,6 +431,70 @@ fn match_rows(bench: &mut Bench) {
             &format!("match of an access row, {title}"),
             || u64::from(store::match_access(black_box(&lent[..]), black_box(&group), black_box(&context), MODEL, 3, black_box(&mut a))),
             || number(handwritten::match_access(black_box(&lent[..]), black_box(&group), black_box(&context), MODEL, 3, black_box(&mut b))),
+        );
+        bench.differ |= a != b;
+    }
+}
+
+/// Every column of every row of full tables.
+#[cfg(feature = "store")]
+const INSTANCES: u64 = 16 + 3 * 64 + 6 * 64 + 4 * 96;
+
+/// Steps from the empty identifier on, each from the instance before it: how many hand back an instance until one does not.
+#[cfg(feature = "store")]
+fn walk_through(mut step: impl FnMut(&[u32], &mut [u32; handwritten::MOST_PARTS]) -> usize) -> u64 {
+    let (mut from, mut to) = (&mut [0; handwritten::MOST_PARTS], &mut [0; handwritten::MOST_PARTS]);
+    let mut parts = 0;
+    for steps in 0..=INSTANCES {
+        parts = step(&from[..parts], to);
+        if parts == 0 {
+            return steps;
+        }
+        std::mem::swap(&mut from, &mut to);
+    }
+    // more steps than instances: it goes back
+    INSTANCES + 1
+}
+
+#[cfg(feature = "store")]
+fn walk_rows(bench: &mut Bench) {
+    use beside::reference::instance;
+    use handwritten::{KEY_MAX, MOST_PARTS};
+    use proved::store;
+
+    let caller = name(b'n', 63);
+    let proved = |lent: &[u8], identifier: &[u32], instance: &mut [u32; MOST_PARTS], key: &mut [u8; KEY_MAX]| {
+        store::walk(black_box(lent), MODEL, black_box(&caller), 3, black_box(identifier), black_box(instance), black_box(key))
+    };
+    let by_hand = |lent: &[u8], identifier: &[u32], instance: &mut [u32; MOST_PARTS], key: &mut [u8; KEY_MAX]| {
+        let next = handwritten::walk(black_box(lent), MODEL, black_box(&caller), 3, black_box(identifier), black_box(instance), black_box(key));
+        next.map_or(0, |next| next.parts)
+    };
+    let tables = walked(1);
+    let readable = store_of(&image::write(&tables));
+    let unreadable = store_of(&image::write(&walked(2)));
+
+    let (mut a, mut b, mut other) = ([0; KEY_MAX], [0; KEY_MAX], [0; MOST_PARTS]);
+    let steps = walk_through(|from, to| {
+        let parts = proved(&readable[..], from, to, &mut a);
+        bench.differ |= by_hand(&readable[..], from, &mut other, &mut b) != parts || other[..parts] != to[..parts] || a != b;
+        parts
+    });
+    let last = handwritten::walk(&unreadable[..], MODEL, &caller, 3, &[], &mut other, &mut b);
+    bench.differ |= steps != INSTANCES || last != Err(17);
+    bench.row(
+        "walk from the empty identifier over full tables to 17",
+        || walk_through(|from, to| proved(&readable[..], from, to, &mut a)),
+        || walk_through(|from, to| by_hand(&readable[..], from, to, &mut b)),
+    );
+
+    let middle = instance::encode(4, &Row::View(tables.views[47].clone()).key()).unwrap();
+    for (title, lent, identifier) in [("everything readable", &readable, middle), ("nothing readable", &unreadable, Vec::new())] {
+        let (mut a, mut b) = (([0; MOST_PARTS], [0; KEY_MAX]), ([0; MOST_PARTS], [0; KEY_MAX]));
+        bench.row(
+            &format!("a step of a walk, full tables, {title}"),
+            || proved(&lent[..], &identifier, &mut a.0, &mut a.1) as u64,
+            || by_hand(&lent[..], &identifier, &mut b.0, &mut b.1) as u64,
         );
         bench.differ |= a != b;
     }
@@ -503,6 +608,7 @@ fn main() -> ExitCode {
     {
         store_rows(&mut bench);
         match_rows(&mut bench);
+        walk_rows(&mut bench);
     }
     println!();
     println!("{} batches of {} ms of processor time on each side, in turn.", bench.batches, bench.nanoseconds / 1_000_000);
