@@ -33,7 +33,7 @@ pub fn call(random: &mut Random, world: &World, tables: &Tables) -> Call {
 pub fn principal_call(random: &mut Random, world: &World, tables: &Tables) -> Call {
     let mut tries = random.between(1, 10);
     loop {
-        let caller = caller(random, world, tables);
+        let caller = caller(random, world, tables, |row| &row.write);
         let edit = edit(random, world, tables);
         tries -= 1;
         if tries == 0 || [0, 10, 11].contains(&judge_principal(tables, &caller, &edit)) {
@@ -64,7 +64,7 @@ pub fn edit(random: &mut Random, world: &World, tables: &Tables) -> Edit {
     Edit::Put(row)
 }
 
-fn with_key(row: Row, key: Key) -> Row {
+pub fn with_key(row: Row, key: Key) -> Row {
     match (row, key) {
         (Row::Context(_), Key::Context { name }) => Row::Context(Context { name }),
         (Row::Mapping(r), Key::Mapping { model, name }) => Row::Mapping(Mapping { model, name, ..r }),
@@ -74,8 +74,9 @@ fn with_key(row: Row, key: Key) -> Row {
     }
 }
 
-fn caller(random: &mut Random, world: &World, tables: &Tables) -> Caller {
-    let (model, name) = match granted(random, tables) {
+/// Mostly a principal that has the view asked for.
+pub fn caller(random: &mut Random, world: &World, tables: &Tables, view: fn(&Access) -> &Name) -> Caller {
+    let (model, name) = match granted(random, tables, view) {
         Some(mapping) if random.chance(75) => (mapping.model, mapping.name),
         _ => principal(random, world, tables),
     };
@@ -90,10 +91,10 @@ fn caller(random: &mut Random, world: &World, tables: &Tables) -> Caller {
     caller
 }
 
-/// A principal whose group has a write view in the empty context.
-fn granted(random: &mut Random, tables: &Tables) -> Option<Mapping> {
-    let has_write = |group: &Name| tables.accesses.iter().any(|row| row.group == *group && row.prefix.is_empty() && !row.write.is_empty());
-    let rows: Vec<&Mapping> = tables.mappings.iter().filter(|row| row.status == 1 && has_write(&row.group)).collect();
+/// A principal whose group has the view in the empty context.
+fn granted(random: &mut Random, tables: &Tables, view: fn(&Access) -> &Name) -> Option<Mapping> {
+    let has_view = |group: &Name| tables.accesses.iter().any(|row| row.group == *group && row.prefix.is_empty() && !view(row).is_empty());
+    let rows: Vec<&Mapping> = tables.mappings.iter().filter(|row| row.status == 1 && has_view(&row.group)).collect();
     if rows.is_empty() {
         None
     } else {

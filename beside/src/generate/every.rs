@@ -1,6 +1,8 @@
 //! Every case of a small kind: each two access rows under step 3, each two view rows under step 5, each storage and
-//! each column under an edit, each field about the ends of its range.
+//! each column under an edit, each field about the ends of its range, each identifier about an instance.
 
+use super::calls::with_key;
+use super::walks::any_column;
 use crate::reference::decision::Request;
 use crate::reference::edits::{Caller, Edit};
 use crate::reference::instance;
@@ -315,18 +317,21 @@ pub fn ranges() -> (Tables, Vec<Call>) {
     (granted(), calls)
 }
 
-/// Instances of every column, cut at every length, with every part altered, and with a part over.
-pub fn instances() -> Vec<Call> {
-    let keys = [
+fn keys() -> [Key; 6] {
+    [
         Key::Context { name: "".into() },
         Key::Context { name: "ab".into() },
         Key::Mapping { model: 3, name: "ab".into() },
         Key::Access { group: "ab".into(), prefix: "".into(), model: 0, level: 1 },
         Key::Access { group: "a".into(), prefix: "bc".into(), model: 3, level: 3 },
         Key::View { name: "ab".into(), subtree: vec![1, 3, u32::MAX] },
-    ];
+    ]
+}
+
+/// Instances of every column of `keys`, cut at every length, with every part altered, and with a part over.
+fn about_instances() -> Vec<Identifier> {
     let mut identifiers: Vec<Identifier> = Vec::new();
-    for key in keys {
+    for key in keys() {
         for column in instance::columns(key.table()) {
             let whole = instance::encode(*column, &key).expect("a legal key and a listed column");
             identifiers.extend((0..=whole.len()).map(|end| whole[..end].to_vec()));
@@ -356,5 +361,61 @@ pub fn instances() -> Vec<Call> {
             identifiers.push(instance(&[1, 3, 6, 1, 6, 3, 16, 1, 5, 2, 1, 6, 1, 97], &[]));
         }
     }
-    identifiers.into_iter().map(Call::Decode).collect()
+    identifiers
+}
+
+pub fn instances() -> Vec<Call> {
+    about_instances().into_iter().map(Call::Decode).collect()
+}
+
+// ---- walks
+
+/// Tables with rows at `keys`, out of service, where Ann may read everything, all but each table's last column, or each table's last
+/// row alone.
+fn walked() -> [Tables; 3] {
+    let mut everything = granted();
+    for key in keys() {
+        everything.put(with_key(stored(key.table(), 0, 3), key));
+    }
+    let mut columns = everything.clone();
+    let mut rows = everything.clone();
+    rows.put(Row::View(view("v", vec![1], vec![], 2, 1)));
+    for table in TABLES {
+        let column = *instance::columns(table).last().expect("columns");
+        columns.put(Row::View(view("v", [instance::base(table), &[column]].concat(), vec![], 2, 1)));
+        let key = everything.rows_of(table).last().expect("rows of every table").key();
+        let instance = instance::encode(column, &key).expect("a legal key and a listed column");
+        rows.put(Row::View(view("v", instance, any_column(table), 1, 1)));
+    }
+    [everything, columns, rows]
+}
+
+/// Ann's walk from every identifier about an instance.
+pub fn walks() -> Vec<(Tables, Vec<Call>)> {
+    let calls: Vec<Call> = about_instances().into_iter().map(|identifier| Call::Walk(ann(), identifier)).collect();
+    walked().into_iter().map(|tables| (tables, calls.clone())).collect()
+}
+
+/// One walk for each value of each field; the others are legal. The identifier is below all instances, or begins with one.
+pub fn walk_ranges() -> (Tables, Vec<Call>) {
+    let [tables, _, _] = walked();
+    let walk = |caller: Caller| Call::Walk(caller, Vec::new());
+    let mut calls = Vec::new();
+    for number in NUMBERS {
+        calls.push(walk(Caller { model: number, ..ann() }));
+        calls.push(walk(Caller { level: number, ..ann() }));
+    }
+    calls.extend(octets().map(|name| walk(Caller { name, ..ann() })));
+    calls.extend(identifiers().map(|identifier| Call::Walk(ann(), identifier)));
+    let first = instance::encode(1, &Key::Context { name: "".into() }).expect("a legal key and a listed column");
+    calls.extend(identifiers().map(|behind| Call::Walk(ann(), [&first[..], &behind].concat())));
+    for length in VARIABLE_LIMIT - 1..=VARIABLE_LIMIT + 1 {
+        for part in [0, 1, u32::MAX] {
+            let mut from = first.clone();
+            from.resize(length, part);
+            calls.push(Call::Walk(ann(), from));
+            calls.push(Call::Walk(ann(), vec![part; length]));
+        }
+    }
+    (tables, calls)
 }

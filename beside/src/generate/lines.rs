@@ -23,7 +23,7 @@ fn hex_words(line: &str) -> Vec<usize> {
     let words: Vec<&str> = line.split(' ').collect();
     let mut hex = match words[0] {
         "decide" => vec![4, 5],
-        "principal" => vec![2],
+        "principal" | "walk" => vec![2],
         "owner" | "encode" | "decode" | "match" | "image" => vec![],
         _ => vec![3, 4],
     };

@@ -7,4 +7,5 @@ pub mod lines;
 pub mod lists;
 pub mod matches;
 pub mod requests;
+pub mod walks;
 pub mod world;

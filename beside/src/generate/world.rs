@@ -392,7 +392,7 @@ pub fn grant(random: &mut Random, world: &World, tables: &mut Tables) -> Mapping
     mapping
 }
 
-fn make_room(random: &mut Random, tables: &mut Tables, key: &Key) {
+pub fn make_room(random: &mut Random, tables: &mut Tables, key: &Key) {
     let table = key.table();
     if tables.count(table) == table.limit() && tables.held(key).is_none() {
         let victim = random.pick(&tables.rows_of(table)).key();

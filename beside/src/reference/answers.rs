@@ -1,4 +1,4 @@
-//! The numbers of document 01's table "Where each number is met".
+//! The numbers of document 01's table "Where each number is met", and of the tickets.
 
 pub type Number = u32;
 
@@ -16,3 +16,4 @@ pub const CONTEXT_TABLE: Number = 12;
 pub const NO_INSTANCE: Number = 13;
 pub const TORN: Number = 14;
 pub const NOT_ASCENDING: Number = 15;
+pub const END_OF_MIB_VIEW: Number = 17;

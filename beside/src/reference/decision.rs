@@ -4,6 +4,9 @@ use super::answers::*;
 use super::rows::*;
 use super::tables::Tables;
 
+pub const READ: u32 = 1;
+pub const WRITE: u32 = 2;
+
 #[derive(Clone, Debug, PartialEq, Eq)]
 pub struct Request {
     pub model: u32,

@@ -1,7 +1,7 @@
 //! The owner's and the principals' edits.
 
 use super::answers::*;
-use super::decision::{decide, Request};
+use super::decision::{decide, Request, WRITE};
 use super::instance;
 use super::rows::*;
 use super::tables::Tables;
@@ -35,6 +35,17 @@ pub struct Caller {
     pub level: u32,
 }
 
+impl Caller {
+    pub fn legal(&self) -> bool {
+        legal_principal_model(self.model) && legal_name(&self.name) && legal_level(self.level)
+    }
+
+    /// The caller's request in the empty context, where edits and walks are judged.
+    pub fn request(&self, kind: u32, variable: Identifier) -> Request {
+        Request { model: self.model, name: self.name.clone(), level: self.level, kind, context: Vec::new(), variable }
+    }
+}
+
 pub fn owner_edit(tables: &mut Tables, edit: &Edit) -> Number {
     if !edit.legal() {
         return OUT_OF_RANGE;
@@ -54,7 +65,7 @@ pub fn principal_edit(tables: &mut Tables, caller: &Caller, edit: &Edit) -> Numb
 
 /// All that is judged of a principal's edit but room.
 pub fn judge_principal(tables: &Tables, caller: &Caller, edit: &Edit) -> Number {
-    if !legal_principal_model(caller.model) || !legal_name(&caller.name) || !legal_level(caller.level) || !edit.legal() {
+    if !caller.legal() || !edit.legal() {
         return OUT_OF_RANGE;
     }
     let key = edit.key();
@@ -64,15 +75,8 @@ pub fn judge_principal(tables: &Tables, caller: &Caller, edit: &Edit) -> Number 
         Table::Access => 9,
         Table::View => 6,
     };
-    let request = Request {
-        model: caller.model,
-        name: caller.name.clone(),
-        level: caller.level,
-        kind: 2,
-        context: Vec::new(),
-        variable: instance::encode(status_column, &key).expect("a legal key and a listed column"),
-    };
-    let answer = decide(tables, &request);
+    let status = instance::encode(status_column, &key).expect("a legal key and a listed column");
+    let answer = decide(tables, &caller.request(WRITE, status));
     if answer != SUCCESS {
         return answer;
     }

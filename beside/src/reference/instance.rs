@@ -3,7 +3,7 @@
 use super::answers::*;
 use super::rows::*;
 
-fn base(table: Table) -> &'static [u32] {
+pub fn base(table: Table) -> &'static [u32] {
     match table {
         Table::Context => &[1, 3, 6, 1, 6, 3, 16, 1, 1, 1],
         Table::Mapping => &[1, 3, 6, 1, 6, 3, 16, 1, 2, 1],

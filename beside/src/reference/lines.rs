@@ -7,6 +7,7 @@ use super::image;
 use super::instance;
 use super::rows::*;
 use super::tables::Tables;
+use super::walk::walk;
 
 pub const LINE_LIMIT: usize = 2048;
 
@@ -63,6 +64,7 @@ pub enum Call {
     Decode(Identifier),
     MatchView { name: Name, variable: Identifier },
     MatchAccess { group: Name, context: Name, model: u32, level: u32 },
+    Walk(Caller, Identifier),
     Image,
 }
 
@@ -87,6 +89,10 @@ pub fn answer(tables: &mut Tables, call: &Call) -> String {
             let found = match_access(tables, group, context, *model, *level);
             match_text(found, |row| key_text(&Row::Access(row.clone()).key()))
         }
+        Call::Walk(caller, identifier) => match walk(tables, caller, identifier) {
+            Ok(next) => format!("next {} {} {}", dotted(&next.instance), next.column, key_text(&next.key)),
+            Err(number) => number.to_string(),
+        },
         Call::Image => format!("image {}", hex(&image::write(tables))),
     }
 }
@@ -105,15 +111,11 @@ pub fn call_of(line: &[u8]) -> Option<Call> {
     let call = match words.next()? {
         b"decide" => Call::Decide(words.request()?),
         b"owner" => Call::Owner(words.edit()?),
-        b"principal" => {
-            let model = words.number()?;
-            let name = words.octets()?;
-            let level = words.number()?;
-            Call::Principal(Caller { model, name, level }, words.edit()?)
-        }
+        b"principal" => Call::Principal(words.caller()?, words.edit()?),
         b"encode" => Call::Encode(words.number()?, words.key()?),
         b"decode" => Call::Decode(words.identifier()?),
         b"match" => words.match_call()?,
+        b"walk" => Call::Walk(words.caller()?, words.identifier()?),
         b"image" => Call::Image,
         _ => return None,
     };
@@ -157,6 +159,10 @@ impl<'a> Words<'a> {
 
     fn identifier(&mut self) -> Option<Identifier> {
         identifier_of(self.next()?)
+    }
+
+    fn caller(&mut self) -> Option<Caller> {
+        Some(Caller { model: self.number()?, name: self.octets()?, level: self.number()? })
     }
 
     fn request(&mut self) -> Option<Request> {
@@ -325,17 +331,20 @@ pub fn call_text(call: &Call) -> String {
     match call {
         Call::Decide(request) => format!("decide {}", request_text(request)),
         Call::Owner(edit) => format!("owner {}", edit_text(edit)),
-        Call::Principal(caller, edit) => {
-            format!("principal {} {} {} {}", caller.model, hex_or_dash(&caller.name), caller.level, edit_text(edit))
-        }
+        Call::Principal(caller, edit) => format!("principal {} {}", caller_text(caller), edit_text(edit)),
         Call::Encode(column, key) => format!("encode {} {}", column, key_text(key)),
         Call::Decode(identifier) => format!("decode {}", dotted(identifier)),
         Call::MatchView { name, variable } => format!("match view {} {}", hex_or_dash(name), dotted(variable)),
         Call::MatchAccess { group, context, model, level } => {
             format!("match access {} {} {} {}", hex_or_dash(group), hex_or_dash(context), model, level)
         }
+        Call::Walk(caller, identifier) => format!("walk {} {}", caller_text(caller), dotted(identifier)),
         Call::Image => "image".to_string(),
     }
+}
+
+fn caller_text(caller: &Caller) -> String {
+    format!("{} {} {}", caller.model, hex_or_dash(&caller.name), caller.level)
 }
 
 fn edit_text(edit: &Edit) -> String {

@@ -9,8 +9,11 @@ pub mod lines;
 pub mod ridge;
 pub mod rows;
 pub mod tables;
+pub mod walk;
 
 #[cfg(test)]
 mod examples;
 #[cfg(test)]
 mod round_trips;
+#[cfg(test)]
+mod walks_to_the_end;

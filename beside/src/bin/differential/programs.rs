@@ -193,6 +193,7 @@ fn call_place(line: &[u8]) -> &'static str {
         Some(Call::Decode(_)) => "decode",
         Some(Call::MatchView { .. }) => "match view",
         Some(Call::MatchAccess { .. }) => "match access",
+        Some(Call::Walk(..)) => "walk",
         Some(Call::Image) => "image",
     }
 }
