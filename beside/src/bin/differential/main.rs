@@ -1,7 +1,7 @@
 //! Runs the proved code beside the reference on seeded cases: the programs `tryreq` and `trycalls`, the agent's C call, and the
 //! benchmark's hand-written implementation. The last line is 'N passed, M failed'; the exit status is 0 only where M is 0.
 //!
-//!     differential [--rounds N] [--seed S] [--part tryreq|trycalls|agent|handwritten]... [--tryreq PATH] [--trycalls PATH]
+//!     differential [--rounds N] [--seed S] [--part tryreq|trycalls|walks|agent|handwritten]... [--tryreq PATH] [--trycalls PATH]
 
 mod agent;
 mod by_hand;
@@ -10,6 +10,7 @@ mod shrink;
 mod tally;
 mod trycalls;
 mod tryreq;
+mod walks;
 
 use beside::random::Random;
 use beside::reference::lines;
@@ -18,6 +19,8 @@ use std::path::{Path, PathBuf};
 use std::process::ExitCode;
 use std::time::Instant;
 use tally::{Tally, IMAGE_PLACES};
+
+const PARTS: [&str; 5] = ["handwritten", "agent", "tryreq", "trycalls", "walks"];
 
 struct Settings {
     rounds: usize,
@@ -45,7 +48,7 @@ fn settings() -> Result<Settings, String> {
         match word.as_str() {
             "--rounds" => settings.rounds = value.parse().map_err(|_| "--rounds wants a number")?,
             "--seed" => settings.seed = value.parse().map_err(|_| "--seed wants a number")?,
-            "--part" if ["tryreq", "trycalls", "agent", "handwritten"].contains(&value.as_str()) => settings.parts.push(value),
+            "--part" if PARTS.contains(&value.as_str()) => settings.parts.push(value),
             "--tryreq" => settings.tryreq = value.into(),
             "--trycalls" => settings.trycalls = value.into(),
             _ => return Err(format!("no such option: {word} {value}")),
@@ -64,6 +67,20 @@ fn program_part(tally: &mut Tally, settings: &Settings, name: &'static str) -> R
             tryreq::run(tally, &mut random, &mut program, settings.rounds);
             tally.require(name, IMAGE_PLACES);
             tally.require(name, &[("request", CAUSES), ("line over 2,048 bytes", &["7"])]);
+        }
+        "walks" => {
+            let mut program = Program::new(name, &settings.trycalls, lines::trycalls)?;
+            walks::run(tally, &mut random, &mut program, settings.rounds);
+            tally.require(name, IMAGE_PLACES);
+            tally.require(
+                name,
+                &[
+                    ("walk", &["context", "mapping", "access", "view", "1", "2", "3", "4", "7", "17"]),
+                    ("walk to the end", &["everything", "some", "nothing", "1", "2", "3", "4"]),
+                    ("malformed line", &["7"]),
+                    ("line over 2,048 bytes", &["7"]),
+                ],
+            );
         }
         _ => {
             let mut program = Program::new(name, &settings.trycalls, lines::trycalls)?;
@@ -123,7 +140,7 @@ fn main() -> ExitCode {
         }
     };
     let mut tally = Tally::default();
-    for part in ["handwritten", "agent", "tryreq", "trycalls"] {
+    for part in PARTS {
         if !settings.parts.is_empty() && !settings.parts.iter().any(|asked| asked == part) {
             continue;
         }
@@ -131,7 +148,7 @@ fn main() -> ExitCode {
         let before = (tally.passed, tally.failed);
         tally.mismatches = 0;
         let ran = match part {
-            "tryreq" | "trycalls" => program_part(&mut tally, &settings, part),
+            "tryreq" | "trycalls" | "walks" => program_part(&mut tally, &settings, part),
             _ => call_part(&mut tally, &settings, part),
         };
         tally.check(ran.is_ok(), || format!("{part}: {}", ran.unwrap_err()));

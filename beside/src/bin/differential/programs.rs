@@ -5,7 +5,7 @@ use crate::tally::{image_place, Tally};
 use beside::random::Random;
 use beside::reference::edits::Edit;
 use beside::reference::image;
-use beside::reference::lines::{self, call_of, Call};
+use beside::reference::lines::{self, call_of, call_text, Call};
 use std::fs::{self, File};
 use std::io::Write;
 use std::path::{Path, PathBuf};
@@ -115,6 +115,14 @@ impl Input {
         Input { lines, newline: true }
     }
 
+    pub fn texts<'a>(lines: impl IntoIterator<Item = &'a str>) -> Input {
+        Input::of(lines.into_iter().map(|line| line.as_bytes().to_vec()).collect())
+    }
+
+    pub fn calls(calls: &[Call]) -> Input {
+        Input::of(calls.iter().map(|call| call_text(call).into_bytes()).collect())
+    }
+
     pub fn bytes(&self) -> Vec<u8> {
         let mut bytes = self.lines.join(&b'\n');
         if self.newline && !self.lines.is_empty() {
@@ -144,6 +152,12 @@ pub fn compare(tally: &mut Tally, program: &mut Program, tables: Option<&[u8]>, 
     written
 }
 
+/// The answer of each line, without the line's number.
+pub fn answers(written: &[u8]) -> Vec<String> {
+    let text = String::from_utf8_lossy(written);
+    text.lines().map(|line| line.split_once(' ').map_or("", |(_, answer)| answer).to_string()).collect()
+}
+
 pub fn differing(expected: &[u8], written: &[u8]) -> Vec<usize> {
     let a: Vec<&[u8]> = expected.split(|byte| *byte == b'\n').collect();
     let b: Vec<&[u8]> = written.split(|byte| *byte == b'\n').collect();
@@ -168,10 +182,11 @@ fn count_places(tally: &mut Tally, part: &'static str, tables: &[u8], stdin: &[u
     }
 }
 
-/// The word behind the line's number; where a match tells a row, what kind of row.
+/// The word behind the line's number; where a match tells a row, what kind of row; where a walk tells an instance, of which table.
 fn answer_kind(answer: &str) -> &str {
     let words: Vec<&str> = answer.split(' ').collect();
     match words[..] {
+        [_, "next", _, _, table, ..] => table,
         [_, "view", .., "1"] => "included",
         [_, "view", .., "2"] => "excluded",
         [_, "access", _, _, "0", _] => "model 0",

@@ -1,7 +1,7 @@
 //! The part trycalls: lists of calls, edits into every table up to its limit and past it, the rows that step 3 and step 5 choose, and
 //! pairs of lists for demand 3.
 
-use crate::programs::{compare, Input, Program};
+use crate::programs::{answers, compare, Input, Program};
 use crate::tally::Tally;
 use crate::tryreq::{line_ends, spelt, P12};
 use beside::generate::calls::{call, spoil_row};
@@ -25,31 +25,20 @@ pub fn run(tally: &mut Tally, random: &mut Random, program: &mut Program, rounds
     let ridge = image::write(&ridge::tables());
     let image_line = || b"image".to_vec();
     let example = ["owner put mapping 3 616e6e 6c65616473 3 1", "decode 1.3.6.1.6.3.16.1.2.1.5.3.3.97.110.110", "encode 5 mapping 3 616e6e", "image"];
-    let example: Vec<Vec<u8>> = example.iter().map(|line| line.as_bytes().to_vec()).collect();
     for tables in [Some(&P12[..]), Some(&FRESH[..]), Some(&ridge[..]), Some(&b""[..]), None] {
-        compare(tally, program, tables, &Input::of(example.clone()));
+        compare(tally, program, tables, &Input::texts(example));
     }
-    compare(tally, program, Some(&ridge), &Input::of(ridge::MATCHES.iter().map(|(line, _)| line.as_bytes().to_vec()).collect()));
+    compare(tally, program, Some(&ridge), &Input::texts(ridge::MATCHES.iter().map(|(line, _)| *line)));
     line_ends(tally, program, &ridge, "encode 5 mapping 3 616e6e");
     line_ends(tally, program, &ridge, "owner put mapping 3 616e6e 6c65616473 3 1");
-    for line in forms() {
-        let mut lines = every_wrap(&line);
-        lines.push(image_line());
-        for altered in every_alteration(&line) {
-            lines.push(altered);
-            if random.chance(2) {
-                lines.push(image_line());
-            }
-        }
-        lines.push(image_line());
-        compare(tally, program, Some(&ridge), &Input::of(lines));
+    for line in FORMS {
+        alterations(tally, random, program, &ridge, line);
     }
     for bytes in one_of_each().into_iter().chain(beyond_largest(&image::write(&largest(random)))) {
         compare(tally, program, Some(&bytes), &Input::of(vec![image_line()]));
     }
     for (start, calls) in [storages(), ranges(), columns(), (Tables::default(), instances())] {
-        let lines = calls.iter().map(|call| call_text(call).into_bytes()).collect();
-        compare(tally, program, Some(&image::write(&start)), &Input::of(lines));
+        compare(tally, program, Some(&image::write(&start)), &Input::calls(&calls));
     }
     let (step_three, step_five) = (step_three(), step_five());
     for _ in 0..10 * rounds {
@@ -68,8 +57,8 @@ pub fn run(tally: &mut Tally, random: &mut Random, program: &mut Program, rounds
             let newline = random.chance(80);
             compare(tally, program, Some(&image::write(&start)), &Input { lines, newline });
         }
-        let lines = growth(random, round);
-        compare(tally, program, Some(&FRESH), &Input::of(lines));
+        let calls = growth(random, round);
+        compare(tally, program, Some(&FRESH), &Input::calls(&calls));
         refusals_when_full(tally, random, program);
         for fresh in [true, true, false, false] {
             isolation(tally, random, program, fresh);
@@ -78,31 +67,43 @@ pub fn run(tally: &mut Tally, random: &mut Random, program: &mut Program, rounds
 }
 
 fn matches(tally: &mut Tally, program: &mut Program, case: &Case, asked: fn(&Request) -> Call) {
-    let lines = case.requests.iter().map(|request| call_text(&asked(request)).into_bytes()).collect();
-    compare(tally, program, Some(&image::write(&case.tables)), &Input::of(lines));
+    let calls: Vec<Call> = case.requests.iter().map(asked).collect();
+    compare(tally, program, Some(&image::write(&case.tables)), &Input::calls(&calls));
 }
 
 /// A line of every form, for their alterations.
-fn forms() -> Vec<String> {
-    let forms = [
-        "decide 3 3 1 616e6e 726964676531 1.3.6.1.2.1.2.2.1.8.2",
-        "owner put context 7a",
-        "owner remove context -",
-        "owner put mapping 3 626f62 6c65616473 3 1",
-        "owner remove mapping 3 616e6e",
-        "owner put access 6c65616473 - 0 1 2 616c6c 616c6c 676f6e65 3 1",
-        "owner remove access 6c65616473 7269 3 2",
-        "owner put view 616c6c 1.3.6.2 ff80 1 3 1",
-        "owner remove view 616c6c 1.3.6.1",
-        "principal 3 616e6e 1 put mapping 3 63616c 747261696e 3 1",
-        "principal 3 616e6e 1 remove view 62617365 1.3.6.1",
-        "encode 5 mapping 3 616e6e",
-        "decode 1.3.6.1.6.3.16.1.1.1.1.1.97",
-        "match view 62617365 1.3.6.1.2.1.2.2.1.8.2",
-        "match access 6c65616473 726964676531 3 2",
-        "image",
-    ];
-    forms.iter().map(|form| form.to_string()).collect()
+const FORMS: &[&str] = &[
+    "decide 3 3 1 616e6e 726964676531 1.3.6.1.2.1.2.2.1.8.2",
+    "owner put context 7a",
+    "owner remove context -",
+    "owner put mapping 3 626f62 6c65616473 3 1",
+    "owner remove mapping 3 616e6e",
+    "owner put access 6c65616473 - 0 1 2 616c6c 616c6c 676f6e65 3 1",
+    "owner remove access 6c65616473 7269 3 2",
+    "owner put view 616c6c 1.3.6.2 ff80 1 3 1",
+    "owner remove view 616c6c 1.3.6.1",
+    "principal 3 616e6e 1 put mapping 3 63616c 747261696e 3 1",
+    "principal 3 616e6e 1 remove view 62617365 1.3.6.1",
+    "encode 5 mapping 3 616e6e",
+    "decode 1.3.6.1.6.3.16.1.1.1.1.1.97",
+    "match view 62617365 1.3.6.1.2.1.2.2.1.8.2",
+    "match access 6c65616473 726964676531 3 2",
+    "image",
+];
+
+/// The line with each of its numbers too great, and altered at each of its places; what they leave is looked at in between.
+pub fn alterations(tally: &mut Tally, random: &mut Random, program: &mut Program, tables: &[u8], line: &str) {
+    let image_line = || b"image".to_vec();
+    let mut lines = every_wrap(line);
+    lines.push(image_line());
+    for altered in every_alteration(line) {
+        lines.push(altered);
+        if random.chance(2) {
+            lines.push(image_line());
+        }
+    }
+    lines.push(image_line());
+    compare(tally, program, Some(tables), &Input::of(lines));
 }
 
 fn calls_list(random: &mut Random, world: &World, start: &Tables) -> Vec<Vec<u8>> {
@@ -123,17 +124,21 @@ fn calls_list(random: &mut Random, world: &World, start: &Tables) -> Vec<Vec<u8>
                 spelt(random, text)
             }
         };
-        if let Some(call) = call_of(&line).filter(|_| line.len() <= lines::LINE_LIMIT) {
-            lines::answer(&mut held, &call);
-        }
+        play(&mut held, &line);
         list.push(line);
     }
     list.push(b"image".to_vec());
     list
 }
 
+/// The line played on the tables, and its answer; none for a line that is no call.
+pub fn play(held: &mut Tables, line: &[u8]) -> Option<String> {
+    let call = call_of(line).filter(|_| line.len() <= lines::LINE_LIMIT)?;
+    Some(lines::answer(held, &call))
+}
+
 /// Rows put one by one in random order until every table is past its limit, then taken out again.
-fn growth(random: &mut Random, round: usize) -> Vec<Vec<u8>> {
+fn growth(random: &mut Random, round: usize) -> Vec<Call> {
     let size = [Size::Wide, Size::Maximal][round % 2];
     let world = World::new(random, size);
     let mut calls = Vec::new();
@@ -150,7 +155,7 @@ fn growth(random: &mut Random, round: usize) -> Vec<Vec<u8>> {
     calls.push(Call::Image);
     calls.extend(keys.iter().take(200).map(|key| Call::Owner(Edit::Remove(key.clone()))));
     calls.push(Call::Image);
-    calls.iter().map(|call| call_text(call).into_bytes()).collect()
+    calls
 }
 
 /// A granted principal's edits of full tables: 9 for a new row, 11 before it, 0 for a held one.
@@ -194,8 +199,7 @@ fn isolation(tally: &mut Tally, random: &mut Random, program: &mut Program, fres
         let mut lines: Vec<Vec<u8>> = list.iter().map(|call| call_text(call).into_bytes()).collect();
         lines.push(b"image".to_vec());
         let out = compare(tally, program, Some(&image::write(start)), &Input::of(lines));
-        let text = String::from_utf8_lossy(&out);
-        let answers: Vec<String> = text.lines().map(|line| line.split_once(' ').map_or("", |(_, answer)| answer).to_string()).collect();
+        let answers = answers(&out);
         shared.push(list.iter().zip(&answers).filter(|(call, _)| circle.is_shared(call)).map(|(_, answer)| answer.clone()).collect::<Vec<_>>());
         let image = answers.last().and_then(|answer| answer.strip_prefix("image ")).map(unhex).unwrap_or_default();
         ends.push(image::read(&image).map(|tables| circle.rows(&tables)));
