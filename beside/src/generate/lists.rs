@@ -2,9 +2,12 @@
 
 use super::calls::{edit, principal_call};
 use super::requests::request;
-use super::world::{grant, held_key, row, table, World, OWN_TABLES};
+use super::walks::{any_column, start};
+use super::world::{grant, held_key, identifier, row, table, World, OWN_TABLES};
 use crate::random::Random;
+use crate::reference::decision::{mask_bit, view_of, READ};
 use crate::reference::edits::{Caller, Edit};
+use crate::reference::instance;
 use crate::reference::lines::{answer, Call};
 use crate::reference::rows::*;
 use crate::reference::tables::Tables;
@@ -14,15 +17,17 @@ pub struct Circle {
     pub group: Name,
     pub members: Vec<(u32, Name)>,
     pub views: Vec<Name>,
+    /// Whether members walk too; then the chosen views mostly include the circle's own instances alone.
+    pub walks: bool,
 }
 
 impl Circle {
-    pub fn new(random: &mut Random, world: &World) -> Circle {
+    pub fn new(random: &mut Random, world: &World, walks: bool) -> Circle {
         let count = random.between(1, 3);
         let members = (0..count).map(|_| (random.of(&world.models), random.pick(&world.names).clone())).collect();
         let most = world.views.len() - 1;
         let views = world.views[..random.between(1, most)].to_vec();
-        Circle { group: world.groups[0].clone(), members, views }
+        Circle { group: world.groups[0].clone(), members, views, walks }
     }
 
     pub fn has_key(&self, key: &Key) -> bool {
@@ -41,14 +46,15 @@ impl Circle {
     pub fn is_shared(&self, call: &Call) -> bool {
         match call {
             Call::Decide(request) => self.has_member(request.model, &request.name),
-            Call::Principal(caller, _) => self.has_member(caller.model, &caller.name),
+            Call::Principal(caller, _) | Call::Walk(caller, _) => self.has_member(caller.model, &caller.name),
             Call::Owner(edit) => self.has_key(&edit.key()),
             _ => false,
         }
     }
 
-    /// A shared put maps members to the group alone and its access rows to chosen views or none; a member's edit is of the circle.
-    fn keeps_conditions(&self, call: &Call) -> bool {
+    /// A shared put maps members to the group alone and its access rows to chosen views or none; a member's edit is of the circle; a
+    /// member's walk is by a view that refuses every instance outside of the circle.
+    fn keeps_conditions(&self, tables: &Tables, call: &Call) -> bool {
         let keeps = |edit: &Edit| match edit {
             Edit::Put(Row::Mapping(r)) => r.group == self.group,
             Edit::Put(Row::Access(r)) => [&r.read, &r.write, &r.notify].iter().all(|view| view.is_empty() || self.views.contains(view)),
@@ -57,13 +63,43 @@ impl Circle {
         match call {
             Call::Owner(edit) => keeps(edit),
             Call::Principal(_, edit) => self.has_key(&edit.key()) && keeps(edit),
+            Call::Walk(caller, _) => self.confines(tables, caller),
             _ => true,
         }
+    }
+
+    /// Whether every active row that includes in the view that the caller reads lies within a family of the circle.
+    fn confines(&self, tables: &Tables, caller: &Caller) -> bool {
+        let families = self.families();
+        let Ok(view) = view_of(tables, &caller.request(READ, Vec::new())) else { return true };
+        let mut including = tables.views.iter().filter(|row| row.name == view && row.status == 1 && row.kind == 1);
+        including.all(|row| families.iter().any(|family| lies_within(row, family)))
+    }
+
+    /// Subtrees with their masks that only instances of the circle's rows match: all contexts, and at any column the members' mappings,
+    /// the group's access rows and the chosen views' rows.
+    fn families(&self) -> Vec<(Identifier, Vec<u8>)> {
+        let at_any_column = |table: Table, front: Identifier| ([instance::base(table), &[0], &front].concat(), any_column(table));
+        // the index of a context is its name alone
+        let named = |name: &Name| Key::Context { name: name.clone() }.index();
+        let mut families = vec![(instance::base(Table::Context).to_vec(), Vec::new())];
+        for (model, name) in &self.members {
+            families.push(at_any_column(Table::Mapping, Key::Mapping { model: *model, name: name.clone() }.index()));
+        }
+        families.push(at_any_column(Table::Access, named(&self.group)));
+        families.extend(self.views.iter().map(|name| at_any_column(Table::View, named(name))));
+        families
     }
 
     pub fn rows(&self, tables: &Tables) -> Vec<Row> {
         tables.rows().into_iter().filter(|row| self.has_key(&row.key())).collect()
     }
+}
+
+/// Whether what the row matches, the family does.
+fn lies_within(row: &View, (subtree, mask): &(Identifier, Vec<u8>)) -> bool {
+    let agrees = |i: usize| !mask_bit(mask, i) || mask_bit(&row.mask, i) && row.subtree[i] == subtree[i];
+    row.subtree.len() >= subtree.len() && (0..subtree.len()).all(agrees)
 }
 
 /// Two starts whose circles agree: the same rows of the circle in both, such as members and the owner may put there, and others apart.
@@ -110,7 +146,7 @@ pub fn two_lists(random: &mut Random, world: &World, circle: &Circle, starts: &[
             None => shared_call(random, world, circle, &tables[0]),
         };
         let full = tables.iter().any(|tables| answer(&mut tables.clone(), &next) == "9");
-        if circle.is_shared(&next) && circle.keeps_conditions(&next) && !full {
+        if circle.is_shared(&next) && tables.iter().all(|tables| circle.keeps_conditions(tables, &next)) && !full {
             for (list, tables) in lists.iter_mut().zip(&mut tables) {
                 answer(tables, &next);
                 list.push(next.clone());
@@ -157,23 +193,27 @@ fn opening_rows(random: &mut Random, circle: &Circle) -> Vec<Row> {
             status: 1,
         }));
     }
+    let families = if circle.walks { circle.families() } else { vec![(OWN_TABLES.to_vec(), Vec::new())] };
     for view in &circle.views {
-        let subtree = OWN_TABLES.to_vec();
-        rows.push(Row::View(View { name: view.clone(), subtree, mask: Vec::new(), kind: 1, storage: 3, status: 1 }));
+        for (subtree, mask) in &families {
+            rows.push(Row::View(View { name: view.clone(), subtree: subtree.clone(), mask: mask.clone(), kind: 1, storage: 3, status: 1 }));
+        }
     }
     rows
 }
 
 fn shared_call(random: &mut Random, world: &World, circle: &Circle, guide: &Tables) -> Call {
     let (model, name) = random.pick(&circle.members).clone();
+    let level = random.between(1, 3) as u32;
     match random.below(10) {
+        0..=2 if circle.walks => Call::Walk(Caller { model, name, level }, start(random, world, guide, &[])),
         0..=3 => {
             let mut request = request(random, world, guide);
             request.model = model;
             request.name = name;
             Call::Decide(request)
         }
-        4..=6 => Call::Principal(Caller { model, name, level: random.between(1, 3) as u32 }, circle_edit(random, world, circle, guide)),
+        4..=6 => Call::Principal(Caller { model, name, level }, circle_edit(random, world, circle, guide)),
         _ => Call::Owner(circle_edit(random, world, circle, guide)),
     }
 }
@@ -191,9 +231,19 @@ fn circle_edit(random: &mut Random, world: &World, circle: &Circle, guide: &Tabl
             let (read, write, notify) = (view(random), view(random), view(random));
             Row::Access(Access { group: circle.group.clone(), read, write, notify, ..r })
         }
-        Row::View(r) => Row::View(View { name: random.pick(&circle.views).clone(), ..r }),
+        Row::View(r) => {
+            let (subtree, mask) = if circle.walks && random.chance(95) { below_family(random, circle) } else { (r.subtree, r.mask) };
+            Row::View(View { name: random.pick(&circle.views).clone(), subtree, mask, ..r })
+        }
         row => row,
     })
+}
+
+fn below_family(random: &mut Random, circle: &Circle) -> (Identifier, Vec<u8>) {
+    let (mut subtree, mask) = random.pick(&circle.families()).clone();
+    let more = random.of(&[0, 0, 1, 3]);
+    subtree.extend(identifier(random, more));
+    (subtree, mask)
 }
 
 /// Another's call: the owner's edits outside of the circle, other principals' edits and requests of anything.
@@ -215,16 +265,20 @@ fn other_call(random: &mut Random, world: &World, circle: &Circle, tables: &Tabl
     }
 }
 
-/// The conditions on a list: others have no edit accepted in the circle, and no shared put of the circle is answered 9.
+/// The conditions on a list: those on shared calls; others have no edit accepted in the circle, and no shared put of the circle is
+/// answered 9.
 pub fn list_keeps(circle: &Circle, start: &Tables, list: &[Call]) -> bool {
     let mut tables = start.clone();
     for call in list {
         let shared = circle.is_shared(call);
+        if shared && !circle.keeps_conditions(&tables, call) {
+            return false;
+        }
         let number = answer(&mut tables, call);
         match call {
             Call::Principal(_, edit) | Call::Owner(edit) => {
                 let in_circle = circle.has_key(&edit.key());
-                if shared && (!circle.keeps_conditions(call) || in_circle && number == "9") {
+                if shared && in_circle && number == "9" {
                     return false;
                 }
                 if !shared && in_circle && number == "0" {

@@ -17,7 +17,8 @@ pub fn walk(random: &mut Random, world: &World, tables: &Tables, last: &[u32]) -
     Call::Walk(caller, start(random, world, tables, last))
 }
 
-fn start(random: &mut Random, world: &World, tables: &Tables, last: &[u32]) -> Identifier {
+/// Where a walk begins: from what the last one handed back, at or about a held instance, a column or a table.
+pub fn start(random: &mut Random, world: &World, tables: &Tables, last: &[u32]) -> Identifier {
     let table = table(random);
     let mut from = match random.below(12) {
         0 => Vec::new(),

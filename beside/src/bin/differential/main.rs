@@ -59,6 +59,9 @@ fn settings() -> Result<Settings, String> {
 
 const CAUSES: &[&str] = &["0", "1", "2", "3", "4", "5", "7"];
 
+const PAIRS: &[(&str, &[&str])] =
+    &[("pairs of lists of demand 3, from fresh stores", &["alike"]), ("pairs of lists of demand 3, from stores whose circles agree", &["alike"])];
+
 fn program_part(tally: &mut Tally, settings: &Settings, name: &'static str) -> Result<(), String> {
     let mut random = Random::new(settings.seed);
     match name {
@@ -76,11 +79,13 @@ fn program_part(tally: &mut Tally, settings: &Settings, name: &'static str) -> R
                 name,
                 &[
                     ("walk", &["context", "mapping", "access", "view", "1", "2", "3", "4", "7", "17"]),
+                    ("member's walk", &["context", "mapping", "access", "view", "17"]),
                     ("walk to the end", &["everything", "some", "nothing", "1", "2", "3", "4"]),
                     ("malformed line", &["7"]),
                     ("line over 2,048 bytes", &["7"]),
                 ],
             );
+            tally.require(name, PAIRS);
         }
         _ => {
             let mut program = Program::new(name, &settings.trycalls, lines::trycalls)?;
@@ -101,10 +106,9 @@ fn program_part(tally: &mut Tally, settings: &Settings, name: &'static str) -> R
                     ("image", &["image"]),
                     ("malformed line", &["7"]),
                     ("line over 2,048 bytes", &["7"]),
-                    ("pairs of lists of demand 3, from fresh stores", &["alike"]),
-                    ("pairs of lists of demand 3, from stores whose circles agree", &["alike"]),
                 ],
             );
+            tally.require(name, PAIRS);
         }
     }
     Ok(())

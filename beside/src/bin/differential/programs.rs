@@ -171,8 +171,8 @@ fn count_places(tally: &mut Tally, part: &'static str, tables: &[u8], stdin: &[u
         tally.meet(part, image_place(read, number.trim_end().parse().expect("a number")));
         return;
     }
-    for (line, answer) in lines::lines_of(stdin).into_iter().zip(text.lines()) {
-        let answer = answer_kind(answer);
+    for (line, answer) in lines::lines_of(stdin).into_iter().zip(answers(expected)) {
+        let answer = answer_kind(&answer);
         let place = match (part, line.len() > lines::LINE_LIMIT) {
             (_, true) => "line over 2,048 bytes",
             ("tryreq", _) => "request",
@@ -182,17 +182,17 @@ fn count_places(tally: &mut Tally, part: &'static str, tables: &[u8], stdin: &[u
     }
 }
 
-/// The word behind the line's number; where a match tells a row, what kind of row; where a walk tells an instance, of which table.
-fn answer_kind(answer: &str) -> &str {
+/// The answer's first word; where a match tells a row, what kind of row; where a walk tells an instance, of which table.
+pub fn answer_kind(answer: &str) -> &str {
     let words: Vec<&str> = answer.split(' ').collect();
     match words[..] {
-        [_, "next", _, _, table, ..] => table,
-        [_, "view", .., "1"] => "included",
-        [_, "view", .., "2"] => "excluded",
-        [_, "access", _, _, "0", _] => "model 0",
-        [_, "access", ..] => "own model",
-        [_, word, ..] => word,
-        _ => "",
+        ["next", _, _, table, ..] => table,
+        ["view", .., "1"] => "included",
+        ["view", .., "2"] => "excluded",
+        ["access", _, _, "0", _] => "model 0",
+        ["access", ..] => "own model",
+        [word, ..] => word,
+        [] => "",
     }
 }
 

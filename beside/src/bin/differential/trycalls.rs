@@ -1,7 +1,7 @@
 //! The part trycalls: lists of calls, edits into every table up to its limit and past it, the rows that step 3 and step 5 choose, and
 //! pairs of lists for demand 3.
 
-use crate::programs::{answers, compare, Input, Program};
+use crate::programs::{answer_kind, answers, compare, Input, Program};
 use crate::tally::Tally;
 use crate::tryreq::{line_ends, spelt, P12};
 use beside::generate::calls::{call, spoil_row};
@@ -61,7 +61,7 @@ pub fn run(tally: &mut Tally, random: &mut Random, program: &mut Program, rounds
         compare(tally, program, Some(&FRESH), &Input::calls(&calls));
         refusals_when_full(tally, random, program);
         for fresh in [true, true, false, false] {
-            isolation(tally, random, program, fresh);
+            isolation(tally, random, program, fresh, false);
         }
     }
 }
@@ -185,31 +185,34 @@ fn refusals_when_full(tally: &mut Tally, random: &mut Random, program: &mut Prog
 }
 
 /// Demand 3 on the program itself: two lists with the same shared calls give these the same answers and leave the same circle, from fresh
-/// stores or from two whose circles agree.
-fn isolation(tally: &mut Tally, random: &mut Random, program: &mut Program, fresh: bool) {
+/// stores or from two whose circles agree; with members' walks or without.
+pub fn isolation(tally: &mut Tally, random: &mut Random, program: &mut Program, fresh: bool, walks: bool) {
     let size = random.of(&[Size::Small, Size::Wide, Size::Dense]);
     let world = World::new(random, size);
-    let circle = Circle::new(random, &world);
+    let circle = Circle::new(random, &world, walks);
     let starts = if fresh { Default::default() } else { agreeing_starts(random, &world, &circle) };
     let length = random.between(20, 120);
     let pair = two_lists(random, &world, &circle, &starts, length);
-    let mut shared = Vec::new();
+    let mut shared: Vec<Vec<(&Call, String)>> = Vec::new();
     let mut ends = Vec::new();
     for (start, list) in starts.iter().zip(&pair) {
         let mut lines: Vec<Vec<u8>> = list.iter().map(|call| call_text(call).into_bytes()).collect();
         lines.push(b"image".to_vec());
         let out = compare(tally, program, Some(&image::write(start)), &Input::of(lines));
         let answers = answers(&out);
-        shared.push(list.iter().zip(&answers).filter(|(call, _)| circle.is_shared(call)).map(|(_, answer)| answer.clone()).collect::<Vec<_>>());
         let image = answers.last().and_then(|answer| answer.strip_prefix("image ")).map(unhex).unwrap_or_default();
         ends.push(image::read(&image).map(|tables| circle.rows(&tables)));
+        shared.push(list.iter().zip(answers).filter(|(call, _)| circle.is_shared(call)).collect());
     }
     if starts.iter().zip(&pair).all(|(start, list)| list_keeps(&circle, start, list)) {
         let from = if fresh { "fresh stores" } else { "stores whose circles agree" };
-        tally.meet("trycalls", format!("pairs of lists of demand 3, from {from}: alike"));
+        tally.meet(program.name, format!("pairs of lists of demand 3, from {from}: alike"));
+        for (_, answer) in shared[0].iter().filter(|(call, _)| matches!(call, Call::Walk(..))) {
+            tally.meet(program.name, format!("member's walk: {}", answer_kind(answer)));
+        }
         let alike = shared[0] == shared[1] && ends[0].is_ok() && ends[0] == ends[1];
         tally.check(alike, || {
-            let texts = pair.map(|list| list.iter().map(call_text).collect::<Vec<_>>().join("\n"));
+            let texts = pair.each_ref().map(|list| list.iter().map(call_text).collect::<Vec<_>>().join("\n"));
             format!("demand 3, for the group {}, of the lists\n{}\n-- and\n{}", hex(&circle.group), texts[0], texts[1])
         });
     }

@@ -1,8 +1,9 @@
-//! The part walks: `trycalls` walks from about every instance and to the end, on tables where a view refuses columns and rows.
+//! The part walks: `trycalls` walks from about every instance and to the end, on tables where a view refuses columns and rows; and
+//! members' walks in pairs of lists for demand 3.
 
 use crate::programs::{answers, compare, Input, Program};
 use crate::tally::Tally;
-use crate::trycalls::{alterations, play};
+use crate::trycalls::{alterations, isolation, play};
 use crate::tryreq::{line_ends, spelt};
 use beside::generate::calls::call;
 use beside::generate::damage::{beyond_largest, every_damage, one_of_each};
@@ -52,6 +53,9 @@ pub fn run(tally: &mut Tally, random: &mut Random, program: &mut Program, rounds
         }
         on_full_tables(tally, random, program, [Size::Wide, Size::Maximal][round % 2]);
         some_to_the_end(tally, random, program);
+        for fresh in [true, false] {
+            isolation(tally, random, program, fresh, true);
+        }
     }
     full_to_the_end(tally, random, program);
 }
