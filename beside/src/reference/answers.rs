@@ -8,6 +8,7 @@ pub const NO_GROUP_NAME: Number = 2;
 pub const NO_ACCESS_ENTRY: Number = 3;
 pub const NO_SUCH_VIEW: Number = 4;
 pub const NOT_IN_VIEW: Number = 5;
+pub const NOT_SOUND: Number = 6;
 pub const OUT_OF_RANGE: Number = 7;
 pub const TABLE_FULL: Number = 9;
 pub const ROW_ABSENT: Number = 10;

@@ -134,6 +134,22 @@ pub fn read(image: &[u8]) -> Result<Tables, Number> {
     Ok(tables)
 }
 
+/// The tables of a store: room of one size, with an image at its front.
+pub fn held(store: &[u8]) -> Result<Tables, Number> {
+    if store.len() != LARGEST {
+        return Err(NOT_SOUND);
+    }
+    read(front(store).ok_or(NOT_SOUND)?).map_err(|_| NOT_SOUND)
+}
+
+/// As many bytes as the counts and the row lengths call for.
+fn front(store: &[u8]) -> Option<&[u8]> {
+    let rows: usize = [0, 2, 4, 6].iter().map(|place| number_16(store, *place)).sum();
+    let lengths = store.get(8..8 + 2 * rows)?;
+    let total: usize = lengths.chunks(2).map(|length| number_16(length, 0)).sum();
+    store.get(..8 + 2 * rows + total)
+}
+
 /// The bytes of one row: each field in order is first there (14), then in range (7); then no bytes are over (14).
 pub fn read_row(table: Table, bytes: &[u8]) -> Result<Row, Number> {
     let mut fields = Fields { bytes };

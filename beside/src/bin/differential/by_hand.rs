@@ -2,17 +2,21 @@
 
 use crate::tally::Tally;
 use beside::generate::calls::edit;
+use beside::generate::damage::damaged;
+use beside::generate::every;
 use beside::generate::matches;
 use beside::generate::requests::request;
+use beside::generate::walks::{grant_reading, ridge_walks, walk};
 use beside::generate::world::{tables, World};
 use beside::handwritten;
 use beside::random::Random;
 use beside::reference::decision::{decide, match_access, match_view};
-use beside::reference::edits::{owner_edit, Edit};
+use beside::reference::edits::{owner_edit, Caller, Edit};
 use beside::reference::image::{self, AgentRequest};
 use beside::reference::lines::{call_text, Call};
 use beside::reference::rows::*;
 use beside::reference::tables::Tables;
+use beside::reference::walk::walk as reference_walk;
 
 pub fn call(image: &[u8], r: &AgentRequest) -> u32 {
     let request = handwritten::Request { model: r.model, name: &r.name, level: r.level, kind: r.kind, context: &r.context };
@@ -134,4 +138,82 @@ fn match_place(asked: &Call, expected: &Match) -> String {
         Err(number) => number.to_string(),
     };
     format!("{call}: {told}")
+}
+
+/// The hand-written walk beside the reference's: from about every instance, to the end, on random stores and on damaged ones.
+pub fn walks(tally: &mut Tally, random: &mut Random, rounds: usize) {
+    for (held, calls) in every::walks().into_iter().chain([every::walk_ranges()]) {
+        let store = store_of(random, &image::write(&held));
+        for asked in &calls {
+            check_walk(tally, random, &store, asked);
+        }
+    }
+    for (held, caller) in ridge_walks() {
+        walk_to_the_end(tally, random, &held, &caller);
+    }
+    for _ in 0..10 * rounds {
+        some_walks(tally, random);
+    }
+}
+
+fn walk_to_the_end(tally: &mut Tally, random: &mut Random, held: &Tables, caller: &Caller) {
+    let store = store_of(random, &image::write(held));
+    let mut from = Some(Vec::new());
+    while let Some(identifier) = from {
+        from = check_walk(tally, random, &store, &Call::Walk(caller.clone(), identifier));
+    }
+}
+
+/// Walks on a sound store, and one on room a byte short, on room a byte over and on a damaged store.
+fn some_walks(tally: &mut Tally, random: &mut Random) {
+    let world = World::any(random);
+    let mut held = tables(random, &world);
+    if random.chance(85) {
+        let kind = random.between(1, 2) as u32;
+        grant_reading(random, &world, &mut held, kind);
+    }
+    let bytes = image::write(&held);
+    let store = store_of(random, &bytes);
+    for _ in 0..20 {
+        let asked = walk(random, &world, &held, &[]);
+        check_walk(tally, random, &store, &asked);
+    }
+    let damaged = damaged(random, &bytes);
+    for unsound in [store[1..].to_vec(), [&store[..], &[0]].concat(), store_of(random, &damaged)] {
+        let asked = walk(random, &world, &held, &[]);
+        check_walk(tally, random, &unsound, &asked);
+    }
+}
+
+/// An image, or as much of it as there is room for, and anything behind it.
+fn store_of(random: &mut Random, image: &[u8]) -> Vec<u8> {
+    let mut store = vec![random.of(&[0, 1, 0xff]); handwritten::ROOM];
+    let length = image.len().min(handwritten::ROOM);
+    store[..length].copy_from_slice(&image[..length]);
+    store
+}
+
+/// A walk and its lent rooms, which have the instance and the key at their fronts and are otherwise as found. Returns the instance.
+fn check_walk(tally: &mut Tally, random: &mut Random, store: &[u8], asked: &Call) -> Option<Identifier> {
+    let Call::Walk(caller, identifier) = asked else { unreachable!() };
+    let expected = image::held(store).and_then(|held| reference_walk(&held, caller, identifier));
+    let mut instance = [random.word() as u32; handwritten::MOST_PARTS];
+    let mut key = [random.word() as u8; handwritten::KEY_MAX];
+    let (mut expected_instance, mut expected_key) = (instance, key);
+    let expected_next = expected.as_ref().map_err(|number| *number).map(|next| {
+        let bytes = image::key_bytes(&next.key);
+        expected_instance[..next.instance.len()].copy_from_slice(&next.instance);
+        expected_key[..bytes.len()].copy_from_slice(&bytes);
+        handwritten::Next { parts: next.instance.len(), table: next.key.table() as u32, column: next.column, key: bytes.len() }
+    });
+    let got = handwritten::walk(store, caller.model, &caller.name, caller.level, identifier, &mut instance, &mut key);
+    let told = match &expected {
+        Ok(next) => format!("{:?}", next.key.table()).to_lowercase(),
+        Err(number) => number.to_string(),
+    };
+    tally.meet("handwritten", format!("walk: {told}"));
+    tally.check(got == expected_next && instance == expected_instance && key == expected_key, || {
+        format!("handwritten: {} is {got:?}, not {expected_next:?}, or the lent rooms differ", call_text(asked))
+    });
+    expected.ok().map(|next| next.instance)
 }

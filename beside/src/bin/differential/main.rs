@@ -118,9 +118,14 @@ fn call_part(tally: &mut Tally, settings: &Settings, name: &'static str) -> Resu
     let mut random = Random::new(settings.seed);
     if name == "handwritten" {
         by_hand::on_a_store(tally, &mut random, settings.rounds);
+        by_hand::walks(tally, &mut random, settings.rounds);
         tally.require(
             name,
-            &[("match view", &["included", "excluded", "none", "6", "7"]), ("match access", &["own model", "model 0", "none", "6", "7"])],
+            &[
+                ("match view", &["included", "excluded", "none", "6", "7"]),
+                ("match access", &["own model", "model 0", "none", "6", "7"]),
+                ("walk", &["context", "mapping", "access", "view", "1", "2", "3", "4", "6", "7", "17"]),
+            ],
         );
         agent::run(tally, &mut random, name, by_hand::call, settings.rounds);
     } else {
