@@ -1,6 +1,6 @@
 -- The first instance at which a walk stops, found table by table, column by column, row by row.
 -- Behind the base an instance stands to the identifier as its column and index stand to what is left of it, and behind the column as its index stands to
--- what is left then (`Fronts` of crate `walk_rows`); an identifier above the front is above all that has it, and nothing there stops the walk.
+-- what is left then (`Fronts` of crate `walk_compare`); an identifier above the front is above all that has it, and nothing there stops the walk.
 -- The first of two lists is the first of the one in front, or else of the other. Assumes nothing.
 use mathlib.Core.Path.{_≡_, refl, sym, ap, _∙_}
 use mathlib.Core.Bool.{Bool, true, false, cond, _&&_}
@@ -20,11 +20,11 @@ use Rattle.rows.specs.Rows.{ViewRow}
 use Rattle.instance_encode.specs.Instances.{base, columns, lists, instance}
 use Rattle.edit_rules.specs.TableRows.{RowOf, rowIndex}
 use Rattle.walk_rules.specs.Walk.{Instance, instanceOf, ofColumns}
-use Rattle.walk_rows.specs.declared.Onward.{Onward}
-use Rattle.walk_rows.specs.declared.Onward.the-variants.{From, Behind}
-use Rattle.walk_rows.specs.Onward.{onward, GoesOn}
+use Rattle.walk_compare.specs.declared.Onward.{Onward}
+use Rattle.walk_compare.specs.declared.Onward.the-variants.{From, Behind}
+use Rattle.walk_compare.specs.Onward.{onward, GoesOn}
 use Rattle.walk_rows.specs.Reading.{readable, readableRow}
-use Rattle.walk_rows.proofs.Fronts.{beforeLeft, before-front}
+use Rattle.walk_compare.proofs.Fronts.{beforeLeft, before-front}
 use Rattle.walk_find.specs.Met.{passing, firstColumn, columnCount, counted, stops}
 
 -- ---- the first of two lists

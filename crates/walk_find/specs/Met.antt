@@ -19,7 +19,7 @@ use Rattle.decision_parts.specs.Parts.{part}
 use Rattle.instance_encode.specs.Instances.{base, columns, lists}
 use Rattle.edit_rules.specs.TableRows.{RowOf, rowOf, rowIndex}
 use Rattle.walk_rules.specs.Walk.{Instance, instanceOf, ofColumns}
-use Rattle.walk_rows.specs.Onward.{onward}
+use Rattle.walk_compare.specs.Onward.{onward}
 use Rattle.walk_rows.specs.Reading.{readable, readableRow}
 use Rattle.walk_find.specs.declared.Met.{Met}
 use Rattle.walk_find.specs.declared.Met.the-variants.{Row, Nothing}

@@ -5,7 +5,7 @@ use decision_parts::NamedView;
 use image_layout::Extent;
 use image_layout::Layout;
 use rows::Table;
-use walk_rows::Onward;
+use walk_compare::Onward;
 ghost use mathlib.Core.Path.{_≡_};
 ghost use mathlib.Core.Bool.{true};
 ghost use mathlib.Core.List.{_∷_};
@@ -62,7 +62,7 @@ fn in_column(w: &[u8], x: Extent, v: NamedView, t: Table, column: u8, parts: &[u
         (firstOf (rowOf t) (passing t column (rowsOf (now (w .entry)) v) (λ i. before (now (parts .entry)) (column ∷ i))) (rowsIn (now (w .entry)) x)) ⌝ }
 {
     let front = [column];
-    let onward = walk_rows::past(parts, &front);
+    let onward = walk_compare::past(parts, &front);
     let Onward::From(k) = onward else {
         return Found::Nothing;
     };
@@ -124,7 +124,7 @@ fn in_table(w: &[u8], x: Extent, v: NamedView, t: Table, identifier: &[u32]) -> 
 {
     let front = instance_encode::base_of(t);
     let n = instance_encode::base_len(t);
-    let onward = walk_rows::past(identifier, &front[0..n]);
+    let onward = walk_compare::past(identifier, &front[0..n]);
     let Onward::From(k) = onward else {
         return Met::Nothing;
     };

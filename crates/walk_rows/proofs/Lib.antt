@@ -1,5 +1,2 @@
-pub mod Comparing
-pub mod Fronts
-pub mod Parts
 pub mod KeyEnds
 pub mod Keys

@@ -10,7 +10,7 @@ use Rattle.decision_parts.specs.Parts.{rowsOf}
 use Rattle.instance_encode.specs.Instances.{base, columns}
 use Rattle.instance_encode.proofs.Bases.{base-taken}
 use Rattle.edit_rules.specs.TableRows.{rowOf}
-use Rattle.walk_rows.specs.Onward.{GoesOn}
+use Rattle.walk_compare.specs.Onward.{GoesOn}
 use Rattle.walk_find.proofs.Stops.{left-place, left-is, above-is, table-above}
 use Rattle.walk_find.proofs.in_table.Statement.{statement}
 use Rattle.walk_find.proofs.in_table.Tie as tie

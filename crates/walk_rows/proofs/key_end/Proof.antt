@@ -1,6 +1,6 @@
 -- `walk_rows::key_end` meets its contract: in each table the key ends behind its last name, that name and a number and a level, or its subtree
 -- (`KeyEnds`), each of which lies where the fields of a whole row do. Assumes nothing.
-use mathlib.Core.Path.{refl, sym, ap, _∙_}
+use mathlib.Core.Path.{refl, ap, _∙_}
 use Prim.Native.Nat.{_+_, _*_}
 use native.Mathlib.Omega.{arith}
 use borrow.Author.Needs.{needs}

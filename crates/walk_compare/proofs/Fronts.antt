@@ -1,14 +1,13 @@
 -- An identifier beside identifiers with a common front: it stands to them as what is left of it stands to what they have behind the front.
 -- Part by part along the front: where a part is less, all of them are above it, as all that is anything is above nothing. Assumes nothing.
-use mathlib.Core.Path.{_≡_, refl, sym, _∙_}
-use mathlib.Core.Bool.{Bool, true, false, cond}
+use mathlib.Core.Path.{_≡_, refl, sym}
+use mathlib.Core.Bool.{Bool, true, false}
 use mathlib.Core.List.{List, [], _∷_, _++_}
 use mathlib.Core.Option.{Option, none, some}
 use Prim.Native.Nat.{ℕ}
-use lib.Dec.{eqb, ltb}
 use Rattle.numbers.specs.Order.{before}
 use Rattle.numbers.proofs.Orders.{Tri, below, equal, above, tri}
-use Rattle.walk_rows.specs.Onward.{onward}
+use Rattle.walk_compare.specs.Onward.{onward}
 
 -- whether what is left, if anything is to be compared, is before a list
 abbrev pub beforeLeft : Option (List ℕ) → List ℕ → Bool

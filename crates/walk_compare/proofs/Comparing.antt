@@ -1,19 +1,18 @@
 -- Lists of numbers compared place by place: as long as their parts are the same, what is left of them stands to each other as they do.
 -- Assumes nothing.
-use mathlib.Core.Path.{_≡_, refl, _∙_}
-use mathlib.Core.Bool.{true, false, cond, _&&_, _||_}
+use mathlib.Core.Path.{_≡_, refl}
+use mathlib.Core.Bool.{true, false}
 use mathlib.Core.List.{List, [], _∷_}
-use mathlib.Core.Option.{Option, none, some}
-use Prim.Native.Nat.{ℕ, suc, _+_, _≤_, _<_}
+use mathlib.Core.Option.{none, some}
+use Prim.Native.Nat.{ℕ, _+_, _≤_, _<_}
 use native.Mathlib.Numerals.{add-one}
-use lib.Dec.{eqb, ltb}
 use lib.ListN.{length, drop, getD, drop-of-length-le}
 use lib.Seq.{drop-cons}
 use borrow.Author.Tests.{lt-ltb, le-ltb, eq-eqb, ne-eqb}
 use native.Mathlib.Omega.{arith}
 use Rattle.numbers.specs.Order.{before}
 use Rattle.numbers.proofs.Orders.{before-cons-eq, before-cons-lt, before-cons-gt}
-use Rattle.walk_rows.specs.Onward.{onward}
+use Rattle.walk_compare.specs.Onward.{onward}
 
 next : (v : List ℕ) (i : ℕ) → i < length v → drop i v ≡ getD v i 0 ∷ drop (i + 1) v
 next v i h = rw (add-one i) (drop-cons v i 0 h)

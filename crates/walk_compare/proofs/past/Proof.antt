@@ -1,17 +1,17 @@
--- `walk_rows::past` meets its contract. The loop's invariant: the identifier goes on behind the front as what is left of it goes on behind what is left
+-- `walk_compare::past` meets its contract. The loop's invariant: the identifier goes on behind the front as what is left of it goes on behind what is left
 -- of the front (`Comparing`). The measure is how many parts of the front are left. Assumes nothing.
 use mathlib.Core.Path.{_≡_, refl, sym, ap, _∙_}
-use mathlib.Core.Option.{Option, some}
+use mathlib.Core.Option.{some}
 use mathlib.Core.List.{List, []}
 use Prim.Native.Nat.{ℕ, _-_, _≤_, _<_}
 use native.Mathlib.Omega.{arith}
 use lib.ListN.{length, drop, getD, drop-of-length-le}
 use borrow.Author.Needs.{needs}
-use Rattle.walk_rows.specs.declared.Onward.the-variants.{From, Behind}
-use Rattle.walk_rows.specs.Onward.{onward, GoesOn}
-use Rattle.walk_rows.proofs.Comparing.{onward-short, onward-less, onward-more, onward-same, onward-end}
-use Rattle.walk_rows.proofs.past.Statement.{statement}
-use Rattle.walk_rows.proofs.past.Tie as tie
+use Rattle.walk_compare.specs.declared.Onward.the-variants.{From}
+use Rattle.walk_compare.specs.Onward.{onward, GoesOn}
+use Rattle.walk_compare.proofs.Comparing.{onward-short, onward-less, onward-more, onward-same, onward-end}
+use Rattle.walk_compare.proofs.past.Statement.{statement}
+use Rattle.walk_compare.proofs.past.Tie as tie
 
 abbrev Inv-loop : tie.InvT-loop
 Inv-loop identifier front n i₀ i = (n ≡ length front) × ((i ≤ length identifier) × (onward identifier front ≡ onward (drop i identifier) (drop i front)))

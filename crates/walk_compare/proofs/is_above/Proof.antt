@@ -1,6 +1,6 @@
--- `walk_rows::is_above` meets its contract. The loop's invariant: the parts stand to the index as what is left of them stands to what is left of it
--- (`Comparing`). The measure is how many parts of the index are left. Assumes nothing.
-use mathlib.Core.Path.{_≡_, refl, sym, _∙_}
+-- `walk_compare::is_above` meets its contract. The loop's invariant: the parts stand to the index as what is left of them stands to what is left of it
+-- (`Comparing`); so it is behind the parts that are the same in front (`Alikes`). The measure is how many parts of the index are left. Assumes nothing.
+use mathlib.Core.Path.{_≡_, sym, _∙_}
 use mathlib.Core.List.{List}
 use Prim.Native.Nat.{ℕ, _+_, _-_, _*_, _≤_, _<_}
 use native.Mathlib.Omega.{arith}
@@ -9,9 +9,10 @@ use borrow.Author.Needs.{needs}
 use Rattle.numbers.specs.Order.{before}
 use Rattle.instance_encode.specs.Runs.{runs}
 use Rattle.instance_encode.proofs.Runs.{runs-length}
-use Rattle.walk_rows.proofs.Comparing.{before-short, before-less, before-more, before-same, before-end}
-use Rattle.walk_rows.proofs.is_above.Statement.{statement}
-use Rattle.walk_rows.proofs.is_above.Tie as tie
+use Rattle.walk_compare.proofs.Alikes.{alike-before}
+use Rattle.walk_compare.proofs.Comparing.{before-short, before-less, before-more, before-same, before-end}
+use Rattle.walk_compare.proofs.is_above.Statement.{statement}
+use Rattle.walk_compare.proofs.is_above.Tie as tie
 
 abbrev Inv-loop : tie.InvT-loop
 Inv-loop key from quads parts n i₀ i =
@@ -23,14 +24,14 @@ abbrev μ-loop : tie.MeasureT-loop
 
 loop-holds : tie.Need-loop-holds Inv-loop μ-loop
 loop-holds c =
-    let s = c .before .before in
+    let s = c .before .before .before in
     let l = runs-length (s .args .from) (s .args .quads) (s .args .key .now) (s .pre) in
-    (omega (arith, l), (omega (arith, l), refl))
+    (omega (arith, l), (omega (arith, l), alike-before _ _ (c .same-parts .result) (c .same-parts .ensures)))
 
 returns : tie.Need-returns Inv-loop μ-loop
 returns c =
     let l = c .before .before .loop in
-    let a = c .before .before .before .before .before .args in
+    let a = c .before .before .before .before .before .before .args in
     sym (l .inv .1 .1 ∙ before-short (a .parts .now) (runs (a .from) (a .quads) (a .key .now)) (l .i) (omega (arith, c .if1 .taken))
     (omega (arith, c .before .loop-test .taken, l .inv .0)))
 
@@ -40,11 +41,11 @@ cast-x c = omega (arith, c .shared-slice-known3 .given (c .before .before .befor
 part-at-requires : tie.Need-part-at-requires Inv-loop μ-loop
 part-at-requires c κs =
     let t = c .before .before in
-    (t .before .before .before .before .pre, omega (arith, t .loop-test .taken, t .before .loop .inv .1 .0))
+    (t .before .before .before .before .before .pre, omega (arith, t .loop-test .taken, t .before .loop .inv .1 .0))
 
 -- where a part of each is read
 abbrev start : tie.After-part-at Inv-loop μ-loop → tie.Start Inv-loop μ-loop
-start p = p .before .before .before .before .before .before .before
+start p = p .before .before .before .before .before .before .before .before
 
 abbrev place : tie.After-part-at Inv-loop μ-loop → ℕ
 place p = p .before .before .before .before .loop .i
@@ -98,11 +99,11 @@ loop-again c =
 returns-4 : tie.Need-returns-4 Inv-loop μ-loop
 returns-4 c =
     let l = c .before .loop in
-    let a = c .before .before .before .before .args in
+    let a = c .before .before .before .before .before .args in
     sym (l .inv .1 .1 ∙ before-end (a .parts .now) (runs (a .from) (a .quads) (a .key .now)) (l .i) (omega (arith, c .loop-test .left, l .inv .0)))
 
 pub is-above-spec : {M : Type 1} → statement M
 is-above-spec =
     tie.close
-    (tie.spec Inv-loop μ-loop (λ c. search needs) (λ c. search needs) loop-holds returns (λ c. search needs) (λ c. search needs) cast-x part-at-requires
-    returns-2 returns-3 (λ c. search needs) (λ c. search needs) loop-again returns-4)
+    (tie.spec Inv-loop μ-loop (λ c. search needs) (λ c. search needs) (λ c κs. search needs) loop-holds returns (λ c. search needs)
+    (λ c. search needs) cast-x part-at-requires returns-2 returns-3 (λ c. search needs) (λ c. search needs) loop-again returns-4)

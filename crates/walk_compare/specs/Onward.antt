@@ -6,8 +6,8 @@ use mathlib.Core.Option.{Option, none, some}
 use Prim.Native.Nat.{ℕ, _≤_}
 use lib.Dec.{eqb, ltb}
 use lib.ListN.{length, drop}
-use Rattle.walk_rows.specs.declared.Onward.{Onward}
-use Rattle.walk_rows.specs.declared.Onward.the-variants.{From, Behind}
+use Rattle.walk_compare.specs.declared.Onward.{Onward}
+use Rattle.walk_compare.specs.declared.Onward.the-variants.{From, Behind}
 
 -- nothing where all of them are above it; none where it is above all of them
 unfoldable pub onward : List ℕ → List ℕ → Option (List ℕ)

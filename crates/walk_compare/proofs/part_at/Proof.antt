@@ -1,10 +1,10 @@
--- `walk_rows::part_at` meets its contract: each test says in which run the part lies (`Parts`). Assumes nothing.
+-- `walk_compare::part_at` meets its contract: each test says in which run the part lies (`Parts`). Assumes nothing.
 use mathlib.Core.Path.{sym, _∙_}
 use native.Mathlib.Omega.{arith}
 use borrow.Author.Needs.{needs}
-use Rattle.walk_rows.proofs.Parts.{first-run, second-run, third-run}
-use Rattle.walk_rows.proofs.part_at.Statement.{statement}
-use Rattle.walk_rows.proofs.part_at.Tie as tie
+use Rattle.walk_compare.proofs.Parts.{first-run, second-run, third-run}
+use Rattle.walk_compare.proofs.part_at.Statement.{statement}
+use Rattle.walk_compare.proofs.part_at.Tie as tie
 
 returns : tie.Need-returns
 returns c =

@@ -1,0 +1,4 @@
+pub mod Comparing
+pub mod Fronts
+pub mod Parts
+pub mod Alikes
