@@ -33,6 +33,7 @@ use Rattle.edit_rows.proofs.Stores.{storeRows, held-is}
 use Rattle.walk_rules.specs.declared.Walked.the-variants.{Faulty}
 use Rattle.walk_rules.specs.Walk.{Instance, instanceOf, ofColumns, ofTable, instances, isAllowed, mayRead, follows, least, nextInstance, refusal, reaching}
 use Rattle.walk_rules.specs.Walk.{ifViewed, legalWalk, walkOn}
+use Rattle.walk_rules.proofs.Ascending.{columns-listed}
 use Rattle.isolation.specs.Isolation.{Circle, keyIn, rowIn, isMember, RefusesOutside}
 use Rattle.isolation.proofs.Circles.{circleRows, rows-circle, Orderly}
 use Rattle.isolation.proofs.Decisions.{authority-keep, decision-keep}
@@ -80,12 +81,6 @@ held-legal s b e t =
     rw (h .1, rows-in (storeRows s) t) (legal-rows t (tableRows t s) (sound-whole t s (h .0) b))
 
 -- ---- a test that fails outside the circle picks the same from the circle's rows as from all
-
-columns-listed : (t : Table) → every (lists t) (columns t) ≡ true
-columns-listed Context = refl
-columns-listed Mapping = refl
-columns-listed Access = refl
-columns-listed View = refl
 
 module _ (w : Circle) (ts : Tables) (l : LegalKeys ts) (test : Instance → Bool) where
   -- of every legal key and listed column

@@ -10,14 +10,14 @@ use Prim.Native.Nat.{ℕ, zero, suc, _+_, _-_, _≤_, _<_}
 use native.Mathlib.Omega.{arith}
 use lib.ListN.{length, take, drop, length-drop}
 use lib.Seq.{take-all}
-use Rattle.numbers.specs.Lists.{keep, every, find}
+use Rattle.numbers.specs.Lists.{keep, find}
 use Rattle.numbers.specs.Order.{before}
 use Rattle.numbers.proofs.Bools.{split}
 use Rattle.numbers.proofs.Keeps.{find-ext, find-map}
 use Rattle.rows.specs.declared.Table.{Table}
 use Rattle.rows.specs.declared.Table.the-variants.{Context, Mapping, Access, View}
 use Rattle.rows.specs.Rows.{ViewRow}
-use Rattle.instance_encode.specs.Instances.{base, columns, lists, instance}
+use Rattle.instance_encode.specs.Instances.{base, columns, instance}
 use Rattle.edit_rules.specs.TableRows.{RowOf, rowIndex}
 use Rattle.walk_rules.specs.Walk.{Instance, instanceOf, ofColumns}
 use Rattle.walk_compare.specs.declared.Onward.{Onward}
@@ -171,9 +171,3 @@ counted-few View = omega arith
 pub counted-next : (column n : ℕ) → 0 < n → counted column n ≡ column ∷ counted (column + 1) (n - 1)
 counted-next column zero h = absurd (omega arith)
 counted-next column (suc n) h = let e : suc n - 1 ≡ n = omega arith in rw e
-
-pub columns-listed : (t : Table) → every (lists t) (columns t) ≡ true
-columns-listed Context = refl
-columns-listed Mapping = refl
-columns-listed Access = refl
-columns-listed View = refl
