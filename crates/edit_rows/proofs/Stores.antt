@@ -18,8 +18,7 @@ use denote.Enum.Declared.{tagOf}
 use Rattle.answers.specs.declared.Fault.{Fault}
 use Rattle.answers.specs.declared.Fault.the-variants.{NotSound, TableFull}
 use Rattle.numbers.proofs.Bools.{split, clash, is-true, cond-true, cond-false}
-use Rattle.numbers.proofs.Greatest.{Ascends, ascends-map, ascends-imp}
-use Rattle.numbers.proofs.Keeps.{every-all}
+use Rattle.numbers.proofs.Greatest.{Ascends}
 use Rattle.rows.specs.declared.Table.{Table}
 use Rattle.rows.specs.declared.Table.the-variants.{Context, Mapping, Access, View}
 use Rattle.rows.specs.Fields.{faults, span}
@@ -48,7 +47,7 @@ use Rattle.edit_rules.specs.Edits.{Outcome, outcome, editedNumber, editOf, fiel
 use Rattle.edit_rules.specs.TableRows.{rowOf, rowIndex, rowsOf}
 use Rattle.edit_rules.specs.Storage.{storageIn, storageAt, StorageKnown, placeFault, placed, fullAt}
 use Rattle.edit_rules.proofs.Storages.{storage-room, storage-at, held-storage}
-use Rattle.edit_rules.proofs.Outcomes.{afterwards, judged, changed, comes, tables, tables-ext, row-index, rows-in, key-whole, edit-change}
+use Rattle.edit_rules.proofs.Outcomes.{afterwards, judged, changed, comes, tables, tables-ext, rows-ascend, rows-in, key-whole, edit-change}
 use Rattle.edit_rows.specs.Promise.{answered, left, Edits, lengthIn}
 
 -- each table of a sound store lies within it
@@ -97,15 +96,10 @@ held-is w {t} e =
     split (isSound w) (λ h. let q : some t ≡ some (tables (storeRows w)) = sym e ∙ held-sound w h in (h, cc))
     (λ h. let q : some t ≡ none = sym e ∙ held-unsound w h in (cc, cc))
 
-ascends-ext : {A : Type 0} (f g : A → List ℕ) (xs : List A) → ((x : A) → f x ≡ g x) → Ascends f xs → Ascends g xs
-ascends-ext f g xs e a = ascends-imp (λ x. true) f g (λ x y p q h. rw (← (e x), ← (e y)) h) xs (every-all (λ x. true) xs (λ x. refl)) a
-
 pub held-ascends : (w : List ℕ) {t : Tables} → held w ≡ some t → (u : Table) → Ascends (rowIndex u) (rowsOf u t)
 held-ascends w e u =
     let h = held-is w e in
-    rw (h .1, rows-in (storeRows w) u)
-    (ascends-map (rowIndex u) (rowOf u) (tableRows u w)
-    (ascends-ext _ _ (tableRows u w) (λ r. sym (row-index u r)) (sound-ascends u w (h .0))))
+    rw (h .1, rows-in (storeRows w) u) (rows-ascend u (tableRows u w) (sound-ascends u w (h .0)))
 
 pub edits-unsound : (f : Tables → Outcome) (w : List ℕ) → isSound w ≡ false → Edits f w w (Faulty NotSound)
 edits-unsound f w h =

@@ -15,7 +15,8 @@ use lib.Seq.{take-all}
 use Rattle.answers.specs.declared.Fault.{Fault}
 use Rattle.numbers.specs.Lists.{isNone}
 use Rattle.numbers.proofs.Bools.{split}
-use Rattle.numbers.proofs.Greatest.{Ascends}
+use Rattle.numbers.proofs.Greatest.{Ascends, ascends-map, ascends-imp}
+use Rattle.numbers.proofs.Keeps.{every-all}
 use Rattle.rows.specs.declared.Operation.{Operation}
 use Rattle.rows.specs.declared.Operation.the-variants.{Put, Remove}
 use Rattle.rows.specs.declared.Table.{Table}
@@ -129,6 +130,13 @@ row-index Context = context-index
 row-index Mapping = mapping-index
 row-index Access = access-index
 row-index View = view-index
+
+-- rows ascend as their bytes do
+pub rows-ascend : (t : Table) (rs : List (List ℕ)) → Ascends (indexOf t) rs → Ascends (rowIndex t) (map (rowOf t) rs)
+rows-ascend t rs a =
+    ascends-map (rowIndex t) (rowOf t) rs
+    (ascends-imp (λ r. true) (indexOf t) (λ r. rowIndex t (rowOf t r)) (λ x y p q h. rw (row-index t x, row-index t y) h) rs
+    (every-all (λ r. true) rs (λ r. refl)) a)
 
 module _ (rs : Table → List (List ℕ)) where
   pub rows-in : (t : Table) → rowsOf t (tables rs) ≡ map (rowOf t) (rs t)

@@ -11,12 +11,11 @@ use Rattle.answers.specs.declared.Fault.the-variants.{NotSound, OutOfRange}
 use Rattle.numbers.specs.Laid.{laid}
 use Rattle.numbers.specs.Lists.{find}
 use Rattle.numbers.specs.Order.{before}
-use Rattle.numbers.proofs.Keeps.{every-all, find-ext}
-use Rattle.numbers.proofs.Greatest.{Ascends, ascends-map, ascends-imp}
+use Rattle.numbers.proofs.Keeps.{find-ext}
+use Rattle.numbers.proofs.Greatest.{Ascends}
 use Rattle.rows.specs.declared.Table.{Table}
 use Rattle.rows.specs.declared.Table.the-variants.{Context, Mapping, Access, View}
 use Rattle.rows.specs.Fields.{orElse}
-use Rattle.rows.specs.Rows.{indexOf}
 use Rattle.rows.specs.Tables.{Tables}
 use Rattle.image_layout.specs.declared.Extent.{Extent}
 use Rattle.image_layout.specs.declared.Layout.{Layout}
@@ -35,7 +34,7 @@ use Rattle.decision_parts.proofs.Decisions.{viewed-decision}
 use Rattle.edit_rules.specs.TableRows as table-rows
 use Rattle.edit_rules.specs.TableRows.{rowOf, rowIndex}
 use Rattle.edit_rules.specs.Edits.{Caller, callerOf}
-use Rattle.edit_rules.proofs.Outcomes.{row-index}
+use Rattle.edit_rules.proofs.Outcomes.{rows-ascend}
 use Rattle.walk_rules.specs.declared.Walked.{Walked}
 use Rattle.walk_rules.specs.Numbers.{walkedNumber}
 use Rattle.walk_rules.specs.Walk.{Instance, instances, isAllowed, mayRead, follows, nextInstance}
@@ -47,18 +46,15 @@ use Rattle.walk.specs.Hands.{Hands}
 
 -- ---- sound tables ascend
 
-rows-ascend : (t : Table) (w : List ℕ) (x : Extent) → SoundTable t w x → Ascends (rowIndex t) (map (rowOf t) (rowsIn w x))
-rows-ascend t w x s =
-    ascends-map (rowIndex t) (rowOf t) (rowsIn w x)
-    (ascends-imp (λ r. true) (indexOf t) (λ r. rowIndex t (rowOf t r)) (λ a b p q h. rw (row-index t a, row-index t b) h) (rowsIn w x)
-    (every-all (λ r. true) (rowsIn w x) (λ r. refl)) (ascends-rows t [] (rowsIn w x) (s .rows-sound)))
+table-ascends : (t : Table) (w : List ℕ) (x : Extent) → SoundTable t w x → Ascends (rowIndex t) (map (rowOf t) (rowsIn w x))
+table-ascends t w x s = rows-ascend t (rowsIn w x) (ascends-rows t [] (rowsIn w x) (s .rows-sound))
 
 tables-ascend : (w : List ℕ) (l : Layout) → SoundLayout w l → (t : Table) → Ascends (rowIndex t) (table-rows.rowsOf t (tablesAt w l))
 unfolding tablesAt
-tables-ascend w l s Context = rows-ascend Context w (l .contexts) (s .contexts-sound)
-tables-ascend w l s Mapping = rows-ascend Mapping w (l .mappings) (s .mappings-sound)
-tables-ascend w l s Access = rows-ascend Access w (l .accesses) (s .accesses-sound)
-tables-ascend w l s View = rows-ascend View w (l .views) (s .views-sound)
+tables-ascend w l s Context = table-ascends Context w (l .contexts) (s .contexts-sound)
+tables-ascend w l s Mapping = table-ascends Mapping w (l .mappings) (s .mappings-sound)
+tables-ascend w l s Access = table-ascends Access w (l .accesses) (s .accesses-sound)
+tables-ascend w l s View = table-ascends View w (l .views) (s .views-sound)
 
 -- ---- by the standing that steps 1 to 4 came to
 
