@@ -1,3 +1,4 @@
 pub mod Ascending
 pub mod Handed
+pub mod Least
 pub mod Examples
