@@ -42,7 +42,7 @@ pub fn play_call(
         Verb::Image => call_answers::tell_image(out, at, store),
         Verb::MatchView => call_tells::match_view(store, slots, bytes, parts, out, at),
         Verb::MatchAccess => call_tells::match_access(store, slots, bytes, parts, out, at),
-        Verb::Walk => call_tells::walk(store, slots, bytes, parts, out, at),
+        Verb::Walk => call_walks::walk(store, slots, bytes, parts, out, at),
         Verb::Unknown => call_answers::tell_fault(out, at, Fault::OutOfRange),
     }
 }

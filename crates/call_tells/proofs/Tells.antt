@@ -5,12 +5,10 @@ use mathlib.Core.Option.{Option}
 use Prim.Native.Nat.{ℕ}
 use Rattle.rows.specs.declared.Table.{Table}
 use Rattle.rows.specs.Tables.{Tables}
-use Rattle.edit_rules.specs.Edits.{callerOf}
 use Rattle.decision_match.specs.Matches.{viewChoice, accessChoice}
 use Rattle.instance_decode.specs.Decoding.{readInstance}
 use Rattle.call_answers.specs.Answers.{instanceText, decodedText, Told}
 use Rattle.call_matches.specs.Texts.{viewMatchText, accessMatchText}
-use Rattle.call_walks.specs.Texts.{TellsWalk}
 
 module _ {at : ℕ} {w out : List ℕ} {r : ℕ} where
   pub told-instance : (t : Table) {n n' : ℕ} {k k' : List ℕ} → n ≡ n' → k ≡ k' → Told (instanceText t n k) at w out r
@@ -29,7 +27,3 @@ module _ {at : ℕ} {w out : List ℕ} {r : ℕ} where
     pub told-access-match : {g g' c c' : List ℕ} {m m' l l' : ℕ} → g ≡ g' → c ≡ c' → m ≡ m' → l ≡ l'
         → Told (accessMatchText (accessChoice tables g c m l)) at w out r → Told (accessMatchText (accessChoice tables g' c' m' l')) at w out r
     told-access-match a b c d s = rw (← a, ← b, ← c, ← d) s
-
-  pub told-walk : {store : List ℕ} {m m' : ℕ} {n n' : List ℕ} {l l' : ℕ} {o o' : List ℕ} → m ≡ m' → n ≡ n' → l ≡ l' → o ≡ o'
-      → TellsWalk (callerOf m n l) o store at w out r → TellsWalk (callerOf m' n' l') o' store at w out r
-  told-walk a b c d s = rw (← a, ← b, ← c, ← d) s

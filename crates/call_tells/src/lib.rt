@@ -2,12 +2,10 @@
 use line_fields::MOST_FIELDS;
 use text_rows::Slot;
 ghost use lib.ListN.{length};
-ghost use Rattle.line_fields.specs.Slots.{slotIn, partIn, Within, Fit};
-ghost use Rattle.call_verbs.specs.declared.Verb.the-variants.{Encode, MatchView, MatchAccess, Walk};
+ghost use Rattle.line_fields.specs.Slots.{slotIn, Within, Fit};
+ghost use Rattle.call_verbs.specs.declared.Verb.the-variants.{Encode, MatchView, MatchAccess};
 ghost use Rattle.call_verbs.specs.Calls.{kindsOf};
-ghost use Rattle.call_verbs.specs.CallSlots.{callerIn};
 ghost use Rattle.call_answers.specs.Answers.{Room, Told};
-ghost use Rattle.call_walks.specs.Texts.{TellsWalk};
 ghost use Rattle.call_tells.specs.Tells.{instanceIn, decodedIn, viewMatchIn, accessMatchIn};
 
 // The instance of a column and a key.
@@ -74,25 +72,4 @@ pub fn match_access(
     let model = line_fields::number_in(parts, slots[2]);
     let level = line_fields::number_in(parts, slots[3]);
     call_matches::tell_access_match(out, at, store, group, context, model, level)
-}
-
-// The next instance behind an identifier that a principal may read.
-pub fn walk(
-    store: &[u8],
-    slots: [Slot; MOST_FIELDS],
-    bytes: &[u8],
-    parts: &[u32],
-    out: &mut [u8],
-    at: usize,
-) -> usize
-    requires slots { ⌜ Fit slots (kindsOf Walk) (now bytes) (now parts) ⌝ }
-    requires room { ⌜ Room at (now out) ⌝ }
-    ensures { λ r. ⌜ TellsWalk (callerIn slots (now (bytes .entry)) (now (parts .entry))) (partIn (slotIn slots 3) (now (parts .entry))) (now (store .entry)) at
-        (now (out .entry)) (now (out .exit)) r ⌝ }
-{
-    let model = line_fields::number_in(parts, slots[0]);
-    let name = line_fields::octets_in(bytes, slots[1]);
-    let level = line_fields::number_in(parts, slots[2]);
-    let identifier = line_fields::identifier_in(parts, slots[3]);
-    call_walks::tell_walk(out, at, store, model, name, level, identifier)
 }

@@ -1,4 +1,4 @@
--- A walk told: an instance by its own text, which is short, and a refusal by its number. Assumes nothing.
+-- A walk told: an instance by its own text, which is short, and a refusal by its number; of equal things the same is told. Assumes nothing.
 use types.Run.{OneOf, miss}
 use denote.Enum.Declared.{tagOf}
 use mathlib.Core.Path.{_≡_, refl}
@@ -12,7 +12,7 @@ use Rattle.rows.specs.declared.Table.{Table}
 use Rattle.rows.specs.Fields.{faults}
 use Rattle.rows.specs.Rows.{keyFields}
 use Rattle.decision_steps.specs.Request.{mostParts}
-use Rattle.edit_rules.specs.Edits.{Caller}
+use Rattle.edit_rules.specs.Edits.{Caller, callerOf}
 use Rattle.walk_rules.specs.declared.Walked.{Walked}
 use Rattle.walk_rules.specs.declared.Walked.the-variants.{Next, EndOfMibView, Denied, Faulty}
 use Rattle.walk_rules.specs.Numbers.{walkedNumber}
@@ -58,3 +58,7 @@ module _ {c : Caller} {identifier s p p′ k k′ : List ℕ} {r : Walked} (w : 
   pub tells-refusal : OneOf (1 ∷ 2 ∷ 3 ∷ []) (tagOf the-type r) → {number : ℕ} → number ≡ walkedNumber r → Told (decimalText number) at found out end
       → TellsWalk c identifier s at found out end
   tells-refusal o e h = record { handed-back = handed r p′ k′; does = walks w; told = rw (e, refused-text r p′ k′ o) at h }
+
+pub told-walk : {store : List ℕ} {m m' : ℕ} {n n' : List ℕ} {l l' : ℕ} {o o' : List ℕ} {at : ℕ} {w out : List ℕ} {end : ℕ} → m ≡ m' → n ≡ n' → l ≡ l'
+    → o ≡ o' → TellsWalk (callerOf m n l) o store at w out end → TellsWalk (callerOf m' n' l') o' store at w out end
+told-walk a b c d s = rw (← a, ← b, ← c, ← d) s

@@ -1,7 +1,9 @@
 // A walk over the tables, told: the next instance that a principal may read, or the number of the refusal.
 use decision::MOST_PARTS;
+use line_fields::MOST_FIELDS;
 use rows::KEY_MAX;
 use rows::Table;
+use text_rows::Slot;
 use walk_rules::Walked;
 ghost use mathlib.Core.Path.{_≡_};
 ghost use mathlib.Core.Option.{none};
@@ -10,6 +12,10 @@ ghost use lib.ListN.{length, take};
 ghost use Rattle.rows.specs.Fields.{faults};
 ghost use Rattle.rows.specs.Rows.{keyFields};
 ghost use Rattle.edit_rules.specs.Edits.{callerOf};
+ghost use Rattle.line_fields.specs.Slots.{slotIn, partIn, Fit};
+ghost use Rattle.call_verbs.specs.declared.Verb.the-variants.{Walk};
+ghost use Rattle.call_verbs.specs.Calls.{kindsOf};
+ghost use Rattle.call_verbs.specs.CallSlots.{callerIn};
 ghost use Rattle.call_answers.specs.Answers.{Room, Told};
 ghost use Rattle.call_walks.specs.Texts.{nextText, TellsWalk};
 
@@ -38,7 +44,7 @@ fn tell_next(
 }
 
 // Tells the next instance behind an identifier that the principal may read.
-pub fn tell_walk(
+fn tell_walk(
     out: &mut [u8],
     at: usize,
     store: &[u8],
@@ -66,4 +72,25 @@ pub fn tell_walk(
         return text_values::put_decimal(out, at, walk_rules::walked_number(walked) as u64);
     };
     tell_next(out, at, &instance, n, t, column, &key[0..m])
+}
+
+// The same, of the caller and the identifier that the slots of a line hold.
+pub fn walk(
+    store: &[u8],
+    slots: [Slot; MOST_FIELDS],
+    bytes: &[u8],
+    parts: &[u32],
+    out: &mut [u8],
+    at: usize,
+) -> usize
+    requires slots { ⌜ Fit slots (kindsOf Walk) (now bytes) (now parts) ⌝ }
+    requires room { ⌜ Room at (now out) ⌝ }
+    ensures { λ r. ⌜ TellsWalk (callerIn slots (now (bytes .entry)) (now (parts .entry))) (partIn (slotIn slots 3) (now (parts .entry))) (now (store .entry)) at
+        (now (out .entry)) (now (out .exit)) r ⌝ }
+{
+    let model = line_fields::number_in(parts, slots[0]);
+    let name = line_fields::octets_in(bytes, slots[1]);
+    let level = line_fields::number_in(parts, slots[2]);
+    let identifier = line_fields::identifier_in(parts, slots[3]);
+    tell_walk(out, at, store, model, name, level, identifier)
 }

@@ -2,7 +2,7 @@
 -- A sound store holds the tables of its rows' bytes, and so does the store afterwards, which is sound again (`Stores` of crate `table_update`):
 -- so the promise is one equation between the edit of the tables and the answer with the tables that stand afterwards (`edits-made`), which is
 -- `edit-change`. Where the answer is Done, a row put is held or has room, and a row removed is held. Assumes nothing.
-use mathlib.Core.Path.{_≡_, refl, sym, ap, ap₂, subst, _∙_}
+use mathlib.Core.Path.{_≡_, refl, sym, ap, subst, _∙_}
 use mathlib.Core.Bool.{Bool, true, false}
 use mathlib.Core.List.{List, [], _∷_}
 use mathlib.Core.Logic.{⊎-elim}
@@ -22,7 +22,7 @@ use Rattle.numbers.proofs.Greatest.{Ascends}
 use Rattle.rows.specs.declared.Table.{Table}
 use Rattle.rows.specs.declared.Table.the-variants.{Context, Mapping, Access, View}
 use Rattle.rows.specs.Fields.{faults, span}
-use Rattle.rows.specs.Rows.{keyFields, rowFields, limit}
+use Rattle.rows.specs.Rows.{keyFields, limit}
 use Rattle.rows.specs.Tables.{Tables}
 use Rattle.rows.proofs.Appends.{key-room}
 use Rattle.rows.proofs.Inverse.{span-whole}
@@ -44,7 +44,7 @@ use Rattle.edit_rules.specs.declared.Edited.{Edited}
 use Rattle.edit_rules.proofs.Edited.{the-type}
 use Rattle.edit_rules.specs.declared.Edited.the-variants.{Done, Barred, Faulty}
 use Rattle.edit_rules.specs.Edits.{Outcome, outcome, editedNumber, editOf, fieldsOf, faulted, edit, isContext}
-use Rattle.edit_rules.specs.TableRows.{rowOf, rowIndex, rowsOf}
+use Rattle.edit_rules.specs.TableRows.{rowIndex, rowsOf}
 use Rattle.edit_rules.specs.Storage.{storageIn, storageAt, StorageKnown, placeFault, placed, fullAt}
 use Rattle.edit_rules.proofs.Storages.{storage-room, storage-at, held-storage}
 use Rattle.edit_rules.proofs.Outcomes.{afterwards, judged, changed, comes, tables, tables-ext, rows-ascend, rows-in, key-whole, edit-change}

@@ -1,10 +1,10 @@
 -- Lists of numbers compared place by place: as long as their parts are the same, what is left of them stands to each other as they do.
 -- Assumes nothing.
-use mathlib.Core.Path.{_≡_, refl}
+use mathlib.Core.Path.{_≡_, refl, ap, _∙_}
 use mathlib.Core.Bool.{true, false}
 use mathlib.Core.List.{List, [], _∷_}
 use mathlib.Core.Option.{none, some}
-use Prim.Native.Nat.{ℕ, _+_, _≤_, _<_}
+use Prim.Native.Nat.{ℕ, zero, suc, _+_, _≤_, _<_}
 use native.Mathlib.Numerals.{add-one}
 use lib.ListN.{length, drop, getD, drop-of-length-le}
 use lib.Seq.{drop-cons}
@@ -12,6 +12,8 @@ use borrow.Author.Tests.{lt-ltb, le-ltb, eq-eqb, ne-eqb}
 use native.Mathlib.Omega.{arith}
 use Rattle.numbers.specs.Order.{before}
 use Rattle.numbers.proofs.Orders.{before-cons-eq, before-cons-lt, before-cons-gt}
+use Rattle.walk_alike.specs.Alike.{Alike}
+use Rattle.walk_alike.proofs.Alikes.{alike-fewer}
 use Rattle.walk_compare.specs.Onward.{onward}
 
 next : (v : List ℕ) (i : ℕ) → i < length v → drop i v ≡ getD v i 0 ∷ drop (i + 1) v
@@ -68,3 +70,11 @@ module _ (a b : List ℕ) (i : ℕ) where
     onward-same e =
         let f : getD b i 0 ≤ getD a i 0 = omega arith in
         rw (next a i h, next b i k, le-ltb (getD a i 0) (getD b i 0) f, eq-eqb (getD a i 0) (getD b i 0) e)
+
+-- behind any number of parts that are the same
+pub alike-before : (a b : List ℕ) (n : ℕ) → Alike n a b → before a b ≡ before (drop n a) (drop n b)
+alike-before a b zero s = refl
+alike-before a b (suc n) s =
+    alike-before a b n (alike-fewer a b n (suc n) (omega arith) s)
+    ∙ before-same a b n (omega (arith, s .in-first)) (omega (arith, s .in-second)) (s .same n (omega arith))
+    ∙ ap (λ m. before (drop m a) (drop m b)) (add-one n)

@@ -1,4 +1,3 @@
 pub mod Comparing
 pub mod Fronts
 pub mod Parts
-pub mod Alikes

@@ -2,7 +2,7 @@
 -- The first three are read off the search among those that follow. For the last, of one or more elements some one (`lowest`) has no other before it:
 -- carried along the list, it gives way to each that is before it. Assumes nothing.
 use mathlib.Core.Path.{_≡_, refl, sym, ap, _∙_}
-use mathlib.Core.Bool.{Bool, true, false, cond, not, _||_}
+use mathlib.Core.Bool.{Bool, true, false, cond, not}
 use mathlib.Core.List.{List, [], _∷_}
 use Prim.Native.Nat.{ℕ}
 use Rattle.numbers.specs.Lists.{keep, every, any, find, isNone}

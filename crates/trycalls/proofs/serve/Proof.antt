@@ -1,6 +1,6 @@
 -- `trycalls::serve` meets its contract. The loop's invariant: the lines taken are played (`Playing`), each buffer keeps its size, and a piece that is used
 -- up was the last. The measure is how much is still to be read. Assumes nothing.
-use mathlib.Core.Path.{_≡_, refl, sym, ap, _∙_}
+use mathlib.Core.Path.{_≡_, refl, ap, _∙_}
 use mathlib.Core.Bool.{true}
 use Prim.Native.Nat.{suc, _≤_}
 use native.Mathlib.Omega.{arith}

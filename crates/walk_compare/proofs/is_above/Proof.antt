@@ -1,16 +1,15 @@
 -- `walk_compare::is_above` meets its contract. The loop's invariant: the parts stand to the index as what is left of them stands to what is left of it
--- (`Comparing`); so it is behind the parts that are the same in front (`Alikes`). The measure is how many parts of the index are left. Assumes nothing.
+-- (`Comparing`); so it is behind the parts that are the same in front. The measure is how many parts of the index are left. Assumes nothing.
 use mathlib.Core.Path.{_≡_, sym, _∙_}
 use mathlib.Core.List.{List}
-use Prim.Native.Nat.{ℕ, _+_, _-_, _*_, _≤_, _<_}
+use Prim.Native.Nat.{ℕ, _+_, _-_, _*_, _<_}
 use native.Mathlib.Omega.{arith}
 use lib.ListN.{length, drop, getD}
 use borrow.Author.Needs.{needs}
 use Rattle.numbers.specs.Order.{before}
 use Rattle.instance_encode.specs.Runs.{runs}
 use Rattle.instance_encode.proofs.Runs.{runs-length}
-use Rattle.walk_compare.proofs.Alikes.{alike-before}
-use Rattle.walk_compare.proofs.Comparing.{before-short, before-less, before-more, before-same, before-end}
+use Rattle.walk_compare.proofs.Comparing.{before-short, before-less, before-more, before-same, before-end, alike-before}
 use Rattle.walk_compare.proofs.is_above.Statement.{statement}
 use Rattle.walk_compare.proofs.is_above.Tie as tie
 

@@ -1,14 +1,14 @@
--- `walk_compare::same_octets` meets its contract. The loop's invariant is what it ensures, of `i`: a turn that goes on has found one more the same (`Alikes`).
+-- `walk_alike::same_octets` meets its contract. The loop's invariant is what it ensures, of `i`: a turn that goes on has found one more the same (`Alikes`).
 -- The measure is what is left of the shorter list. Assumes nothing.
 use mathlib.Core.Path.{refl, _∙_}
 use Prim.Native.Nat.{_-_, _≤_}
 use native.Mathlib.Omega.{arith}
 use lib.ListN.{length}
 use borrow.Author.Needs.{needs}
-use Rattle.walk_compare.specs.Alike.{Alike}
-use Rattle.walk_compare.proofs.Alikes.{alike-next}
-use Rattle.walk_compare.proofs.same_octets.Statement.{statement}
-use Rattle.walk_compare.proofs.same_octets.Tie as tie
+use Rattle.walk_alike.specs.Alike.{Alike}
+use Rattle.walk_alike.proofs.Alikes.{alike-next}
+use Rattle.walk_alike.proofs.same_octets.Statement.{statement}
+use Rattle.walk_alike.proofs.same_octets.Tie as tie
 
 abbrev Inv-loop : tie.InvT-loop
 Inv-loop octets parts n i₀ i = (n ≤ length octets) × ((n ≤ length parts) × Alike i parts octets)

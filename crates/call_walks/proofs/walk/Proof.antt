@@ -1,9 +1,9 @@
--- `call_tells::walk` meets its contract: the model, the name, the level and the identifier are of what the slots hold. Assumes nothing.
+-- `call_walks::walk` meets its contract: the model, the name, the level and the identifier are of what the slots hold. Assumes nothing.
 use native.Mathlib.Omega.{arith}
 use borrow.Author.Needs.{needs}
-use Rattle.call_tells.proofs.Tells.{told-walk}
-use Rattle.call_tells.proofs.walk.Statement.{statement}
-use Rattle.call_tells.proofs.walk.Tie as tie
+use Rattle.call_walks.proofs.Walks.{told-walk}
+use Rattle.call_walks.proofs.walk.Statement.{statement}
+use Rattle.call_walks.proofs.walk.Tie as tie
 
 number-in-requires : tie.Need-number-in-requires
 number-in-requires c κs = c .before .before .before .before .before .pre .0 .within 0 (omega arith)

@@ -1,22 +1,19 @@
--- Lists that are the same in front: by one element more, by a run more, and how they then stand to each other. Assumes nothing.
+-- Lists that are the same in front: by one element more, by a run more. Assumes nothing.
 use mathlib.Core.Path.{_≡_, refl, sym, ap, _∙_}
-use mathlib.Core.Bool.{Bool, true, _&&_}
+use mathlib.Core.Bool.{Bool, true}
 use mathlib.Core.List.{List, _++_}
-use Prim.Native.Nat.{ℕ, zero, suc, _+_, _-_, _*_, _≤_, _<_}
+use Prim.Native.Nat.{ℕ, _+_, _-_, _*_, _≤_, _<_}
 use native.Mathlib.Omega.{arith}
-use native.Mathlib.Numerals.{add-one}
 use lib.Dec.{eqb}
 use lib.ListN.{length, take, drop, getD, length-drop, length-append, List·getD-append}
 use lib.Seq.{getD-append-add, getD-drop, take-all, length-take-le, drop-drop}
 use borrow.Author.Tests.{eqb-true}
 use Rattle.numbers.specs.BigEndian.{quad, numbers}
-use Rattle.numbers.specs.Order.{before}
 use Rattle.numbers.proofs.BigEndian.{length-numbers}
 use Rattle.numbers.proofs.Bools.{and-left, and-right}
 use Rattle.numbers.proofs.Orders.{Tri, below, equal, above, tri}
 use Rattle.instance_encode.specs.Runs.{runs}
-use Rattle.walk_compare.specs.Alike.{Alike, fourSame}
-use Rattle.walk_compare.proofs.Comparing.{before-same}
+use Rattle.walk_alike.specs.Alike.{Alike, fourSame}
 
 module _ (a b : List ℕ) where
   pub alike-none : Alike 0 a b
@@ -45,13 +42,6 @@ module _ (a b : List ℕ) where
     in-second = omega (arith, s .in-second);
     same = λ i l. s .same i (omega arith);
   }
-
-  pub alike-before : (n : ℕ) → Alike n a b → before a b ≡ before (drop n a) (drop n b)
-  alike-before zero s = refl
-  alike-before (suc n) s =
-      alike-before n (alike-fewer n (suc n) (omega arith) s)
-      ∙ before-same a b n (omega (arith, s .in-first)) (omega (arith, s .in-second)) (s .same n (omega arith))
-      ∙ ap (λ m. before (drop m a) (drop m b)) (add-one n)
 
   module _ (c : List ℕ) where
     pub alike-front : (n : ℕ) → Alike n a b → Alike n a (b ++ c)

@@ -1,9 +1,9 @@
--- `walk_compare::same_parts` meets its contract: a run is gone on to where all of those before it are the same (`Alikes`). Assumes nothing.
+-- `walk_alike::same_parts` meets its contract: a run is gone on to where all of those before it are the same (`Alikes`). Assumes nothing.
 use native.Mathlib.Omega.{arith}
 use borrow.Author.Needs.{needs}
-use Rattle.walk_compare.proofs.Alikes.{first-alike, second-alike, third-alike}
-use Rattle.walk_compare.proofs.same_parts.Statement.{statement}
-use Rattle.walk_compare.proofs.same_parts.Tie as tie
+use Rattle.walk_alike.proofs.Alikes.{first-alike, second-alike, third-alike}
+use Rattle.walk_alike.proofs.same_parts.Statement.{statement}
+use Rattle.walk_alike.proofs.same_parts.Tie as tie
 
 abbrev start : tie.After-same-octets → tie.Start
 start o = o .before .before .before .before

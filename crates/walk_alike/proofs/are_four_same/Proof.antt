@@ -1,9 +1,9 @@
--- `walk_compare::are_four_same` meets its contract: it is so defined. An octet is a part as it is, being below 256. Assumes nothing.
+-- `walk_alike::are_four_same` meets its contract: it is so defined. An octet is a part as it is, being below 256. Assumes nothing.
 use Prim.Native.Nat.{_+_}
 use native.Mathlib.Omega.{arith}
 use borrow.Author.Needs.{needs}
-use Rattle.walk_compare.proofs.are_four_same.Statement.{statement}
-use Rattle.walk_compare.proofs.are_four_same.Tie as tie
+use Rattle.walk_alike.proofs.are_four_same.Statement.{statement}
+use Rattle.walk_alike.proofs.are_four_same.Tie as tie
 
 cast-result : tie.Need-cast-result
 cast-result c = omega (arith, c .shared-slice-known2 .given (c .before .before .args .i))

@@ -1,14 +1,14 @@
--- `walk_compare::skip_octets` meets its contract. The loop's invariant is what it ensures, of `i`: a turn that goes on has found four more the same (`Alikes`).
+-- `walk_alike::skip_octets` meets its contract. The loop's invariant is what it ensures, of `i`: a turn that goes on has found four more the same (`Alikes`).
 -- The measure is what is left of `n`. Assumes nothing.
 use mathlib.Core.Path.{sym, _∙_}
 use Prim.Native.Nat.{_-_, _≤_}
 use native.Mathlib.Omega.{arith}
 use borrow.Author.Tests.{not-false}
 use borrow.Author.Needs.{needs}
-use Rattle.walk_compare.specs.Alike.{Alike}
-use Rattle.walk_compare.proofs.Alikes.{alike-none, alike-four}
-use Rattle.walk_compare.proofs.skip_octets.Statement.{statement}
-use Rattle.walk_compare.proofs.skip_octets.Tie as tie
+use Rattle.walk_alike.specs.Alike.{Alike}
+use Rattle.walk_alike.proofs.Alikes.{alike-none, alike-four}
+use Rattle.walk_alike.proofs.skip_octets.Statement.{statement}
+use Rattle.walk_alike.proofs.skip_octets.Tie as tie
 
 abbrev Inv-loop : tie.InvT-loop
 Inv-loop octets parts n i₀ i = (i ≤ n) × Alike i parts octets

@@ -1,4 +1,4 @@
--- `walk_compare::same_quads` meets its contract. The loop's invariant is what it ensures, of `i`: a turn that goes on has found one more the same (`Alikes`).
+-- `walk_alike::same_quads` meets its contract. The loop's invariant is what it ensures, of `i`: a turn that goes on has found one more the same (`Alikes`).
 -- The measure is what is left of the shorter list. Assumes nothing.
 use mathlib.Core.Path.{_≡_, refl, sym, ap, _∙_}
 use mathlib.Core.List.{List}
@@ -8,10 +8,10 @@ use lib.ListN.{length, drop, getD}
 use borrow.Author.Needs.{needs}
 use Rattle.numbers.specs.BigEndian.{quad, number, numbers}
 use Rattle.numbers.proofs.BigEndian.{length-numbers, getD-numbers}
-use Rattle.walk_compare.specs.Alike.{Alike}
-use Rattle.walk_compare.proofs.Alikes.{alike-none, alike-next}
-use Rattle.walk_compare.proofs.same_quads.Statement.{statement}
-use Rattle.walk_compare.proofs.same_quads.Tie as tie
+use Rattle.walk_alike.specs.Alike.{Alike}
+use Rattle.walk_alike.proofs.Alikes.{alike-none, alike-next}
+use Rattle.walk_alike.proofs.same_quads.Statement.{statement}
+use Rattle.walk_alike.proofs.same_quads.Tie as tie
 
 abbrev Inv-loop : tie.InvT-loop
 Inv-loop bytes count parts n i₀ i = (n ≤ count) × ((n ≤ length parts) × Alike i parts (numbers quad count bytes))
