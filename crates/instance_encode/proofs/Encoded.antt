@@ -1,4 +1,5 @@
--- Encoding a listed column of a legal key into 128 parts never fails: an instance has 110 at most. What is written is the instance. Assumes nothing.
+-- Encoding a listed column of a legal key into 128 parts never fails: an instance has 110 at most. What is written is the instance.
+-- Each column of a table is listed. Assumes nothing.
 use mathlib.Core.Path.{_≡_, refl, ap, _∙_}
 use mathlib.Core.Bool.{true}
 use mathlib.Core.List.{List, _++_}
@@ -10,11 +11,19 @@ use lib.Seq.{take-at}
 use Rattle.answers.specs.declared.Fault.{Fault}
 use Rattle.answers.specs.declared.Written.{Written}
 use Rattle.answers.specs.declared.Written.the-variants.{Length, Unwritten}
+use Rattle.numbers.specs.Lists.{every}
 use Rattle.rows.specs.declared.Table.{Table}
+use Rattle.rows.specs.declared.Table.the-variants.{Context, Mapping, Access, View}
 use Rattle.rows.specs.Fields.{faults}
 use Rattle.rows.specs.Rows.{keyFields, indexOf}
-use Rattle.instance_encode.specs.Instances.{instance, lists, encodeFault, written, Encodes}
+use Rattle.instance_encode.specs.Instances.{columns, instance, lists, encodeFault, written, Encodes}
 use Rattle.instance_encode.proofs.Answers.{instance-short, encode-accepted}
+
+pub columns-listed : (t : Table) → every (lists t) (columns t) ≡ true
+columns-listed Context = refl
+columns-listed Mapping = refl
+columns-listed Access = refl
+columns-listed View = refl
 
 module _ (t : Table) (column : ℕ) (key : List ℕ) (c : lists t column ≡ true) (f : faults (keyFields t) key ≡ none)
     {found after : List ℕ} {r : Written} (e : Encodes t column key found after r) (l : length found ≡ 128) where

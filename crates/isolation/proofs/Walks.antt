@@ -23,6 +23,7 @@ use Rattle.rows.proofs.Keys.{front-legal}
 use Rattle.image.specs.Store.{held}
 use Rattle.decision_steps.specs.Request.{asked, read}
 use Rattle.instance_encode.specs.Instances.{columns, lists, instance}
+use Rattle.instance_encode.proofs.Encoded.{columns-listed}
 use Rattle.table_update.specs.Exchange.{tableRows}
 use Rattle.table_update.proofs.Keys.{Whole}
 use Rattle.table_update.proofs.Stores.{sound-whole}
@@ -33,7 +34,6 @@ use Rattle.edit_rows.proofs.Stores.{storeRows, held-is}
 use Rattle.walk_rules.specs.declared.Walked.the-variants.{Faulty}
 use Rattle.walk_rules.specs.Walk.{Instance, instanceOf, ofColumns, ofTable, instances, isAllowed, mayRead, follows, least, nextInstance, refusal, reaching}
 use Rattle.walk_rules.specs.Walk.{ifViewed, legalWalk, walkOn}
-use Rattle.walk_rules.proofs.Ascending.{columns-listed}
 use Rattle.isolation.specs.Isolation.{Circle, keyIn, rowIn, isMember, RefusesOutside}
 use Rattle.isolation.proofs.Circles.{circleRows, rows-circle, Orderly}
 use Rattle.isolation.proofs.Decisions.{authority-keep, decision-keep}

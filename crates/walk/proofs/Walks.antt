@@ -1,4 +1,4 @@
--- A walk over sound tables: they ascend, so that the least instance that follows is the first (`Ascending` of crate `walk_rules`); and once steps 1 to 4
+-- A walk over sound tables: they ascend, so that the least instance that follows is the first (`Ascending`); and once steps 1 to 4
 -- came to a view, what may be read is what the view lets be read. Assumes nothing.
 use mathlib.Core.Path.{_≡_, refl, sym, ap, _∙_}
 use mathlib.Core.Bool.{Bool, true, false, cond, _&&_}
@@ -39,10 +39,10 @@ use Rattle.walk_rules.specs.declared.Walked.{Walked}
 use Rattle.walk_rules.specs.Numbers.{walkedNumber}
 use Rattle.walk_rules.specs.Walk.{Instance, instances, isAllowed, mayRead, follows, nextInstance}
 use Rattle.walk_rules.specs.Walk.{refusal, reaching, ifViewed, legalWalk, walkOn, walkIn, Walk, Walks, LegalKey}
-use Rattle.walk_rules.proofs.Ascending.{next-first}
 use Rattle.walk_rows.specs.Reading.{readable}
 use Rattle.walk_find.specs.Met.{stops}
 use Rattle.walk.specs.Hands.{Hands}
+use Rattle.walk.proofs.Ascending.{next-first}
 
 -- ---- sound tables ascend
 

@@ -1,4 +1,3 @@
-pub mod Ascending
+pub mod Examples
 pub mod Handed
 pub mod Least
-pub mod Examples

@@ -16,9 +16,9 @@ use Rattle.image_layout.specs.Layout.{rowsIn}
 use Rattle.decision_find.proofs.Chosen.{row-at, no-row}
 use Rattle.decision_parts.specs.Parts.{rowsOf}
 use Rattle.instance_encode.specs.Instances.{base, columns, lists}
+use Rattle.instance_encode.proofs.Encoded.{columns-listed}
 use Rattle.edit_rules.specs.TableRows.{rowOf}
 use Rattle.walk_rules.specs.Walk.{ofColumns}
-use Rattle.walk_rules.proofs.Ascending.{columns-listed}
 use Rattle.walk_compare.specs.Onward.{onward}
 use Rattle.walk_find.specs.Met.{counted, stops, firstIn}
 use Rattle.walk_find.proofs.Stops.{column-stops, column-passed, counted-columns, counted-few, counted-next}

@@ -16,10 +16,10 @@ use Rattle.numbers.proofs.Greatest.{Under, Ascends, ascends-keep}
 use Rattle.rows.specs.declared.Table.{Table}
 use Rattle.rows.specs.declared.Table.the-variants.{Context, Mapping, Access, View}
 use Rattle.rows.specs.Tables.{Tables}
-use Rattle.instance_encode.specs.Instances.{base, columns, lists, instance}
+use Rattle.instance_encode.specs.Instances.{base, columns, instance}
 use Rattle.edit_rules.specs.TableRows.{RowOf, rowsOf, rowIndex}
 use Rattle.edit_rules.specs.Edits.{Caller}
 use Rattle.walk_rules.specs.Walk.{Instance, instanceOf, ofColumns, ofTable, instances, follows, least, nextInstance}
 
 abbrev id : Instance → List ℕ
 id i = i .identifier
@@ -117,13 +117,6 @@ columns-rise Context = refl
 columns-rise Mapping = refl
 columns-rise Access = refl
 columns-rise View = refl
-
--- and each of them is listed
-pub columns-listed : (t : Table) → every (lists t) (columns t) ≡ true
-columns-listed Context = refl
-columns-listed Mapping = refl
-columns-listed Access = refl
-columns-listed View = refl
 
 ascends-columns : (t : Table) (rs : List (RowOf t)) (cs : List ℕ) → rising cs ≡ true → Ascends (rowIndex t) rs → Ascends id (ofColumns t rs cs)
 ascends-columns t rs [] h a = tt
