@@ -1,10 +1,10 @@
 -- Encoding a listed column of a legal key into 128 parts never fails: an instance has 110 at most. What is written is the instance.
--- Each column of a table is listed. Assumes nothing.
+-- Each column of a table is listed, and the next of those counted is the first. Assumes nothing.
 use mathlib.Core.Path.{_≡_, refl, ap, _∙_}
 use mathlib.Core.Bool.{true}
-use mathlib.Core.List.{List, _++_}
+use mathlib.Core.List.{List, _∷_, _++_}
 use mathlib.Core.Option.{none}
-use Prim.Native.Nat.{ℕ, _-_, _≤_}
+use Prim.Native.Nat.{ℕ, zero, suc, _+_, _-_, _≤_, _<_}
 use native.Mathlib.Omega.{arith}
 use lib.ListN.{length, take, drop, length-take}
 use lib.Seq.{take-at}
@@ -16,7 +16,7 @@ use Rattle.rows.specs.declared.Table.{Table}
 use Rattle.rows.specs.declared.Table.the-variants.{Context, Mapping, Access, View}
 use Rattle.rows.specs.Fields.{faults}
 use Rattle.rows.specs.Rows.{keyFields, indexOf}
-use Rattle.instance_encode.specs.Instances.{columns, instance, lists, encodeFault, written, Encodes}
+use Rattle.instance_encode.specs.Instances.{columns, counted, instance, lists, encodeFault, written, Encodes}
 use Rattle.instance_encode.proofs.Answers.{instance-short, encode-accepted}
 
 pub columns-listed : (t : Table) → every (lists t) (columns t) ≡ true
@@ -24,6 +24,10 @@ columns-listed Context = refl
 columns-listed Mapping = refl
 columns-listed Access = refl
 columns-listed View = refl
+
+pub counted-next : (column n : ℕ) → 0 < n → counted column n ≡ column ∷ counted (column + 1) (n - 1)
+counted-next column zero h = absurd (omega arith)
+counted-next column (suc n) h = let e : suc n - 1 ≡ n = omega arith in rw e
 
 module _ (t : Table) (column : ℕ) (key : List ℕ) (c : lists t column ≡ true) (f : faults (keyFields t) key ≡ none)
     {found after : List ℕ} {r : Written} (e : Encodes t column key found after r) (l : length found ≡ 128) where

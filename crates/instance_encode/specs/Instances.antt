@@ -3,7 +3,7 @@ use mathlib.Core.Path.{_≡_}
 use mathlib.Core.Bool.{Bool, cond, _&&_}
 use mathlib.Core.List.{List, [], _∷_, _++_}
 use mathlib.Core.Option.{Option, none, some}
-use Prim.Native.Nat.{ℕ}
+use Prim.Native.Nat.{ℕ, zero, suc, _+_}
 use lib.Dec.{eqb, leb}
 use lib.ListN.{length, drop}
 use Rattle.answers.specs.Numbers.{writtenNumber}
@@ -37,6 +37,11 @@ columns Context = 1 ∷ []
 columns Mapping = 3 ∷ 4 ∷ 5 ∷ []
 columns Access = 4 ∷ 5 ∷ 6 ∷ 7 ∷ 8 ∷ 9 ∷ []
 columns View = 3 ∷ 4 ∷ 5 ∷ 6 ∷ []
+
+-- numbers that follow one another, as the columns of a table do
+abbrev pub counted : ℕ → ℕ → List ℕ
+counted column zero = []
+counted column (suc n) = column ∷ counted (column + 1) n
 
 abbrev pub instance : Table → ℕ → List ℕ → List ℕ
 instance t column index = base t ++ (column ∷ index)

@@ -12,7 +12,7 @@ ghost use Rattle.numbers.specs.Laid.{laid};
 ghost use Rattle.rows.specs.Fields.{faults};
 ghost use Rattle.numbers.specs.BigEndian.{quad, numbers};
 ghost use Rattle.rows.specs.Rows.{keyFields};
-ghost use Rattle.instance_encode.specs.Instances.{base, longestBase, lists, instance, Encodes};
+ghost use Rattle.instance_encode.specs.Instances.{base, longestBase, columns, counted, lists, instance, Encodes};
 ghost use Rattle.instance_encode.specs.Runs.{quadsFrom, quadsIn, runs};
 
 // The parts of the longest base.
@@ -20,6 +20,24 @@ pub const BASE_ROOM: usize = 11;
 
 // The bytes of an access key behind its names: a model and a level.
 const MODEL_AND_LEVEL: usize = 5;
+
+// The columns that document 01 lists for a table: they follow one another.
+pub struct Columns {
+    pub first: u8,
+    pub count: usize,
+}
+
+pub fn columns_of(t: Table) -> Columns
+    ensures listed { λ r. ⌜ counted (r .first) (r .count) ≡ columns t ⌝ }
+    ensures few { λ r. ⌜ r .first + r .count ≤ 10 ⌝ }
+{
+    match t {
+        Table::Context => Columns { first: 1, count: 1 },
+        Table::Mapping => Columns { first: 3, count: 3 },
+        Table::Access => Columns { first: 4, count: 6 },
+        Table::View => Columns { first: 3, count: 4 },
+    }
+}
 
 // Whether document 01 lists the column for the table.
 pub fn is_listed(t: Table, column: u32) -> bool

@@ -17,7 +17,7 @@ use Rattle.numbers.proofs.Keeps.{find-ext, find-map}
 use Rattle.rows.specs.declared.Table.{Table}
 use Rattle.rows.specs.declared.Table.the-variants.{Context, Mapping, Access, View}
 use Rattle.rows.specs.Rows.{ViewRow}
-use Rattle.instance_encode.specs.Instances.{base, columns, instance}
+use Rattle.instance_encode.specs.Instances.{base, instance}
 use Rattle.edit_rules.specs.TableRows.{RowOf, rowIndex}
 use Rattle.walk_rules.specs.Walk.{Instance, instanceOf, ofColumns}
 use Rattle.walk_compare.specs.declared.Onward.{Onward}
@@ -25,7 +25,7 @@ use Rattle.walk_compare.specs.declared.Onward.the-variants.{From, Behind}
 use Rattle.walk_compare.specs.Onward.{onward, GoesOn}
 use Rattle.walk_rows.specs.Reading.{readable, readableRow}
 use Rattle.walk_compare.proofs.Fronts.{beforeLeft, before-front}
-use Rattle.walk_find.specs.Met.{passing, firstColumn, columnCount, counted, stops}
+use Rattle.walk_find.specs.Met.{passing, stops}
 
 -- ---- the first of two lists
 
@@ -153,21 +153,3 @@ module _ (t : Table) (view : List ViewRow) (identifier : List ℕ) (rs : List (R
           ap (λ b. b && readable view (instance t column (rowIndex t r)))
           (before-front identifier (base t) (column ∷ rowIndex t r) (cons-some column (rowIndex t r))
           ∙ ap (λ o. beforeLeft o (column ∷ rowIndex t r)) (sym e))
-
--- ---- the columns counted
-
-pub counted-columns : (t : Table) → counted (firstColumn t) (columnCount t) ≡ columns t
-counted-columns Context = refl
-counted-columns Mapping = refl
-counted-columns Access = refl
-counted-columns View = refl
-
-pub counted-few : (t : Table) → firstColumn t + columnCount t ≤ 10
-counted-few Context = omega arith
-counted-few Mapping = omega arith
-counted-few Access = omega arith
-counted-few View = omega arith
-
-pub counted-next : (column n : ℕ) → 0 < n → counted column n ≡ column ∷ counted (column + 1) (n - 1)
-counted-next column zero h = absurd (omega arith)
-counted-next column (suc n) h = let e : suc n - 1 ≡ n = omega arith in rw e

@@ -2,14 +2,13 @@
 -- in the bytes of an image. Assumes nothing.
 use mathlib.Core.Path.{_≡_}
 use mathlib.Core.Bool.{Bool, true, _&&_}
-use mathlib.Core.List.{List, [], _∷_, map}
+use mathlib.Core.List.{List, map}
 use mathlib.Core.Option.{Option, none, some}
-use Prim.Native.Nat.{ℕ, zero, suc, _+_, _≤_}
+use Prim.Native.Nat.{ℕ, _≤_}
 use lib.ListN.{length, drop}
 use Rattle.numbers.specs.Lists.{find}
 use Rattle.numbers.specs.Order.{before}
 use Rattle.rows.specs.declared.Table.{Table}
-use Rattle.rows.specs.declared.Table.the-variants.{Context, Mapping, Access, View}
 use Rattle.rows.specs.Rows.{ViewRow}
 use Rattle.image_layout.specs.declared.Extent.{Extent}
 use Rattle.image_layout.specs.Layout.{rowsIn}
@@ -23,21 +22,6 @@ use Rattle.walk_compare.specs.Onward.{onward}
 use Rattle.walk_rows.specs.Reading.{readable, readableRow}
 use Rattle.walk_find.specs.declared.Met.{Met}
 use Rattle.walk_find.specs.declared.Met.the-variants.{Row, Nothing}
-
--- ---- columns, counted from the first
-
-abbrev pub firstColumn : Table → ℕ
-firstColumn Context = 1
-firstColumn Mapping = 3
-firstColumn Access = 4
-firstColumn View = 3
-
-abbrev pub columnCount : Table → ℕ
-columnCount t = length (columns t)
-
-abbrev pub counted : ℕ → ℕ → List ℕ
-counted column zero = []
-counted column (suc n) = column ∷ counted (column + 1) n
 
 -- ---- the instance at which a walk stops
 

@@ -19,7 +19,7 @@ ghost use Rattle.instance_encode.specs.Instances.{lists};
 ghost use Rattle.edit_rules.specs.TableRows.{rowOf};
 ghost use Rattle.walk_rules.specs.Walk.{instances};
 ghost use Rattle.walk_rows.specs.Reading.{readableRow};
-ghost use Rattle.walk_find.specs.Met.{passing, firstColumn, columnCount, stops, firstIn, LeftAt, Meets};
+ghost use Rattle.walk_find.specs.Met.{passing, stops, firstIn, LeftAt, Meets};
 
 // The row at which a walk stops: its table, the column, and where it lies in the image.
 pub enum Met {
@@ -71,29 +71,7 @@ fn in_column(w: &[u8], x: Extent, v: NamedView, t: Table, column: u8, parts: &[u
     first_row(w, above, v, t, column as u32)
 }
 
-// ---- the columns of a table, which follow one another
-
-fn first_column(t: Table) -> u8
-    ensures { λ r. ⌜ r ≡ firstColumn t ⌝ }
-{
-    match t {
-        Table::Context => 1,
-        Table::Mapping => 3,
-        Table::Access => 4,
-        Table::View => 3,
-    }
-}
-
-fn column_count(t: Table) -> usize
-    ensures { λ r. ⌜ r ≡ columnCount t ⌝ }
-{
-    match t {
-        Table::Context => 1,
-        Table::Mapping => 3,
-        Table::Access => 6,
-        Table::View => 4,
-    }
-}
+// ---- the columns of a table
 
 // The first instance of a table above the identifier that the view lets be read; behind the base the identifier's parts from `k` on are left.
 fn in_columns(w: &[u8], x: Extent, v: NamedView, t: Table, identifier: &[u32], k: usize) -> Met
@@ -103,8 +81,9 @@ fn in_columns(w: &[u8], x: Extent, v: NamedView, t: Table, identifier: &[u32], k
     ensures { λ r. ⌜ Meets (now (w .entry)) r (firstIn t (rowsOf (now (w .entry)) v) (now (identifier .entry)) (now (w .entry)) x) ⌝ }
 {
     let end = identifier.len();
-    let mut column = first_column(t);
-    let mut left = column_count(t);
+    let columns = instance_encode::columns_of(t);
+    let mut column = columns.first;
+    let mut left = columns.count;
     while 0 < left {
         let found = in_column(w, x, v, t, column, &identifier[k..end]);
         if let Found::Row(at, to) = found {

@@ -15,13 +15,13 @@ use Rattle.numbers.proofs.Bools.{and-left, and-right}
 use Rattle.image_layout.specs.Layout.{rowsIn}
 use Rattle.decision_find.proofs.Chosen.{row-at, no-row}
 use Rattle.decision_parts.specs.Parts.{rowsOf}
-use Rattle.instance_encode.specs.Instances.{base, columns, lists}
-use Rattle.instance_encode.proofs.Encoded.{columns-listed}
+use Rattle.instance_encode.specs.Instances.{base, counted, lists}
+use Rattle.instance_encode.proofs.Encoded.{columns-listed, counted-next}
 use Rattle.edit_rules.specs.TableRows.{rowOf}
 use Rattle.walk_rules.specs.Walk.{ofColumns}
 use Rattle.walk_compare.specs.Onward.{onward}
-use Rattle.walk_find.specs.Met.{counted, stops, firstIn}
-use Rattle.walk_find.proofs.Stops.{column-stops, column-passed, counted-columns, counted-few, counted-next}
+use Rattle.walk_find.specs.Met.{stops, firstIn}
+use Rattle.walk_find.proofs.Stops.{column-stops, column-passed}
 use Rattle.walk_find.proofs.in_columns.Statement.{statement}
 use Rattle.walk_find.proofs.in_columns.Tie as tie
 
@@ -35,13 +35,11 @@ abbrev μ-loop : tie.MeasureT-loop
 
 loop-holds : tie.Need-loop-holds Inv-loop μ-loop
 loop-holds c =
-    let a = c .before .before .before .before .args in
-    let f = c .before .first-column .ensures in
-    let n = c .column-count .ensures in
-    let e : counted (c .before .first-column .result) (c .column-count .result) ≡ columns (a .t) = ap₂ counted f n ∙ counted-columns (a .t) in (
+    let a = c .before .before .before .args in
+    let e = c .columns-of .ensures .0 in (
       refl,
       (
-        omega (arith, f, n, counted-few (a .t)),
+        c .columns-of .ensures .1,
         (
           ap (every (lists (a .t))) e ∙ columns-listed (a .t),
           ap (λ cs. find (stops (rowsOf (a .w .now) (a .v)) (a .identifier .now))
@@ -51,19 +49,19 @@ loop-holds c =
     )
 
 -- the parts that are left lie within the identifier
-inside : (c : tie.In-loop Inv-loop μ-loop) → let a = c .before .before .before .before .before .before .args in a .k ≤ length (a .identifier .now)
-inside c = c .before .before .before .before .before .before .pre .1 .1 .place
+inside : (c : tie.In-loop Inv-loop μ-loop) → let a = c .before .before .before .before .before .args in a .k ≤ length (a .identifier .now)
+inside c = c .before .before .before .before .before .pre .1 .1 .place
 
 in-column-requires : tie.Need-in-column-requires Inv-loop μ-loop
 in-column-requires c κs =
     let t = c .before in
     let l = t .before .loop in
-    let s = t .before .before .before .before .before .before in
+    let s = t .before .before .before .before .before in
     (s .pre .0, (s .pre .1 .0, and-left _ _ (rw (counted-next (l .column) (l .left) (t .loop-test .taken)) at (l .inv .1 .1 .0))))
 
 -- where a column was searched
 abbrev start : tie.After-in-column Inv-loop μ-loop → tie.Start Inv-loop μ-loop
-start i = i .before .before .before .before .before .before .before .before
+start i = i .before .before .before .before .before .before .before
 
 abbrev column : tie.After-in-column Inv-loop μ-loop → ℕ
 column i = i .before .before .before .loop .column
@@ -129,7 +127,7 @@ returns-2 c =
 pub in-columns-spec : {M : Type 1} → statement M
 in-columns-spec =
     tie.close
-    (tie.spec Inv-loop μ-loop (λ c κs. search needs) (λ c κs. tt) loop-holds (λ c. let h = inside c in search needs) inside inside
+    (tie.spec Inv-loop μ-loop (λ c κs. tt) loop-holds (λ c. let h = inside c in search needs) inside inside
     (λ c. search needs) in-column-requires (λ c. search needs) (λ c. omega (arith, c .before .before .before .before .before .before .loop .inv .1 .0))
     returns (λ c. search needs) (λ c. omega (arith, c .before .before .before .before .before .loop .inv .1 .0)) (λ c. search needs)
     (λ c. omega (arith, c .before .before .before .before .loop-test .taken)) loop-again returns-2)
