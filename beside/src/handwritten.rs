@@ -920,7 +920,7 @@ fn hand_instance(variable: &[u8], instance: &mut [u32; MOST_PARTS]) {
     }
 }
 
-// ---- the owner's edits
+// ---- edits
 
 /// The length of a legal row's key.
 fn row_key(table: usize, row: &[u8]) -> Option<usize> {
@@ -957,27 +957,29 @@ fn legal_key(table: usize, key: &[u8]) -> bool {
     judged == Ok(end)
 }
 
-#[inline(never)]
-pub fn owner_put(store: &mut [u8], table: u32, row: &[u8]) -> u32 {
-    let mut layout = Layout::new();
-    match judge_store(store, &mut layout) {
-        0 => {}
-        refusal => return refusal,
-    }
-    let table = table as usize;
-    let key = match row_key(table, row) {
-        None => return 7,
-        Some(key) => &row[..key],
-    };
-    // SAFETY: the store was judged, and the key is legal.
-    let (number, byte, end, there) = unsafe {
-        let number = bound(store.as_ptr(), &layout, table, key, false);
-        let there = number < layout.row[table + 1] && begins(store.as_ptr(), &layout, number, key);
-        let byte = layout.start(number);
-        let length = if there { layout.start(number + 1) - byte } else { 0 };
-        (number, byte, layout.start(layout.row[4]), there.then_some(length))
-    };
-    match there {
+/// Where the row with a key is or would come: its number among all rows, where it begins, and its length if it is held.
+#[derive(Clone, Copy)]
+struct Spot {
+    number: usize,
+    byte: usize,
+    held: Option<usize>,
+}
+
+/// SAFETY: the rows of the layout were judged, and the key is legal.
+#[inline(always)]
+unsafe fn spot(bytes: At, layout: &Layout, table: usize, key: &[u8]) -> Spot {
+    let number = bound(bytes, layout, table, key, false);
+    let byte = layout.start(number);
+    let is_held = number < layout.row[table + 1] && begins(bytes, layout, number, key);
+    Spot { number, byte, held: is_held.then(|| layout.start(number + 1) - byte) }
+}
+
+#[inline(always)]
+fn put_at(store: &mut [u8], layout: &Layout, table: usize, spot: Spot, row: &[u8]) -> u32 {
+    let Spot { number, byte, held } = spot;
+    // SAFETY: the survey has passed.
+    let end = unsafe { layout.start(layout.row[4]) };
+    match held {
         Some(length) => {
             if length != row.len() {
                 store.copy_within(byte + length..end, byte + row.len());
@@ -997,6 +999,85 @@ pub fn owner_put(store: &mut [u8], table: u32, row: &[u8]) -> u32 {
             store[byte + 2..byte + 2 + row.len()].copy_from_slice(row);
             set_16(store, length_at, row.len());
             set_16(store, 2 * table, count + 1);
+        }
+    }
+    0
+}
+
+#[inline(never)]
+pub fn owner_put(store: &mut [u8], table: u32, row: &[u8]) -> u32 {
+    let mut layout = Layout::new();
+    match judge_store(store, &mut layout) {
+        0 => {}
+        refusal => return refusal,
+    }
+    let table = table as usize;
+    let key = match row_key(table, row) {
+        None => return 7,
+        Some(key) => &row[..key],
+    };
+    // SAFETY: the store was judged, and the key is legal.
+    let spot = unsafe { spot(store.as_ptr(), &layout, table, key) };
+    put_at(store, &layout, table, spot, row)
+}
+
+/// A put that the principal may make at every column, and that the storage of the row held and of the new one lets it make.
+#[inline(never)]
+pub fn principal_put(store: &mut [u8], model: u32, name: &[u8], level: u32, table: u32, row: &[u8]) -> u32 {
+    let mut layout = Layout::new();
+    match judge_store(store, &mut layout) {
+        0 => {}
+        refusal => return refusal,
+    }
+    let table = table as usize;
+    let key = match row_key(table, row) {
+        Some(key) if legal_access(&[], model, level) && legal_name(name) => &row[..key],
+        _ => return 7,
+    };
+    if table == 0 {
+        return 12;
+    }
+    // SAFETY: the store was judged, the caller is in range and the key is legal.
+    let spot = unsafe {
+        match written_columns(store.as_ptr(), &layout, &Request { model, name, level, kind: 2, context: &[] }, table, key) {
+            0 => {}
+            cause => return cause,
+        }
+        spot(store.as_ptr(), &layout, table, key)
+    };
+    let given = row[row.len() - 2];
+    let lets = match spot.held.map(|length| store[spot.byte + length - 2]) {
+        Some(5) => false,
+        Some(4) => given == 4,
+        _ => given < 4,
+    };
+    if !lets {
+        return 11;
+    }
+    put_at(store, &layout, table, spot, row)
+}
+
+/// The first cause met at the columns that a put writes, ascending; 0 for none.
+#[inline(always)]
+unsafe fn written_columns(bytes: At, layout: &Layout, request: &Request, table: usize, key: &[u8]) -> u32 {
+    let view = match named_view(bytes, layout, request) {
+        Ok(view) => view,
+        Err(cause) => return cause,
+    };
+    let rows = rows_of_view(bytes, layout, view);
+    if !rows.clone().any(|i| is_active(bytes, layout, i)) {
+        return 4;
+    }
+    let Columns { first, last, .. } = COLUMNS[table];
+    let mut room = [0; MOST_BYTES];
+    let front = spell_front(&mut room, Place { table, column: first, row: 0 });
+    let runs = runs(table, key.as_ptr());
+    spell_index(room.as_mut_ptr().add(4 * front), key.as_ptr(), runs);
+    let length = 4 * (front + runs.parts());
+    for column in first..=last {
+        room[4 * front - 1] = column as u8;
+        if !is_included(bytes, layout, rows.clone(), view, &room[..length]) {
+            return 5;
         }
     }
     0

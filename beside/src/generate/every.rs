@@ -1,8 +1,8 @@
 //! Every case of a small kind: each two access rows under step 3, each two view rows under step 5, each storage and
-//! each column under an edit, each field about the ends of its range, each identifier about an instance.
+//! each set of columns under an edit, each field about the ends of its range, each identifier about an instance.
 
 use super::calls::with_key;
-use super::walks::any_column;
+use super::world::any_column;
 use crate::reference::decision::Request;
 use crate::reference::edits::{Caller, Edit};
 use crate::reference::instance;
@@ -163,36 +163,48 @@ pub fn storages() -> (Tables, Vec<Call>) {
     (granted(), calls)
 }
 
-/// The principal's write view shrinks to one column at a time, and to the status instance of one row: the edit is judged there alone.
+/// The principal's write view includes some columns of a table: each set of those listed, one at a time of those about them, all of them,
+/// and those of one row alone.
 pub fn columns() -> (Tables, Vec<Call>) {
     let mut tables = base(&[""]);
     tables.put(Row::Access(access("", 0, 1, 1, "v")));
     let mut calls = Vec::new();
     for table in [Table::Mapping, Table::Access, Table::View] {
-        let row = stored(table, 0, 3);
-        let status = *instance::columns(table).last().expect("columns");
-        let instance = instance::encode(status, &row.key()).expect("a legal key and a listed column");
-        let place = instance.len() - row.key().index().len() - 1;
-        let mut subtrees = vec![instance[..place].to_vec(), instance.clone(), instance[..instance.len() - 1].to_vec()];
-        for column in 0..12 {
-            let mut subtree = instance[..=place].to_vec();
-            subtree[place] = column;
-            subtrees.push(subtree);
+        let listed = instance::columns(table);
+        let column_of = |column: u32| view("v", [instance::base(table), &[column]].concat(), vec![], 1, 1);
+        let mut sets: Vec<Vec<View>> = Vec::new();
+        for bits in 0..1u32 << listed.len() {
+            let chosen = listed.iter().enumerate().filter(|(i, _)| bits >> i & 1 == 1);
+            sets.push(chosen.map(|(_, column)| column_of(*column)).collect());
         }
-        for subtree in subtrees {
-            let granted = view("v", subtree, vec![], 1, 1);
-            let key = Row::View(granted.clone()).key();
-            calls.push(Call::Owner(Edit::Put(Row::View(granted))));
-            for other in 0..2 {
-                let row = stored(table, other, 3);
-                calls.push(Call::Principal(ann(), Edit::Put(row.clone())));
-                calls.push(Call::Principal(ann(), Edit::Remove(row.key())));
-            }
-            calls.push(Call::Owner(Edit::Remove(key)));
+        sets.extend((0..12).map(|column| vec![column_of(column)]));
+        sets.push(vec![view("v", instance::base(table).to_vec(), vec![], 1, 1)]);
+        let whole = instance::encode(listed[0], &stored(table, 0, 3).key()).expect("a legal key and a listed column");
+        for length in [whole.len() - 1, whole.len()] {
+            sets.push(vec![view("v", whole[..length].to_vec(), any_column(table), 1, 1)]);
+        }
+        for set in sets {
+            edits_under(&set, table, &mut calls);
         }
     }
     calls.push(Call::Image);
     (tables, calls)
+}
+
+/// While the view has these rows, Ann puts and removes a row that is not held, puts a held one as it is, and removes it.
+fn edits_under(set: &[View], table: Table, calls: &mut Vec<Call>) {
+    let by_ann = |edit: Edit| Call::Principal(ann(), edit);
+    calls.extend(set.iter().map(|row| Call::Owner(Edit::Put(Row::View(row.clone())))));
+    for number in 0..2 {
+        let row = stored(table, number, 3);
+        calls.push(by_ann(Edit::Put(row.clone())));
+        calls.push(by_ann(Edit::Remove(row.key())));
+        calls.push(Call::Owner(Edit::Put(row.clone())));
+        calls.push(by_ann(Edit::Put(row.clone())));
+        calls.push(by_ann(Edit::Remove(row.key())));
+        calls.push(Call::Owner(Edit::Remove(row.key())));
+    }
+    calls.extend(set.iter().map(|row| Call::Owner(Edit::Remove(Row::View(row.clone()).key()))));
 }
 
 fn stored(table: Table, number: usize, storage: u32) -> Row {

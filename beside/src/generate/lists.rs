@@ -2,8 +2,8 @@
 
 use super::calls::{edit, principal_call};
 use super::requests::request;
-use super::walks::{any_column, start};
-use super::world::{grant, held_key, identifier, row, table, World, OWN_TABLES};
+use super::walks::start;
+use super::world::{any_column, grant, held_key, identifier, row, table, World, OWN_TABLES};
 use crate::random::Random;
 use crate::reference::decision::{mask_bit, view_of, READ};
 use crate::reference::edits::{Caller, Edit};
@@ -197,6 +197,12 @@ fn opening_rows(random: &mut Random, circle: &Circle) -> Vec<Row> {
     for view in &circle.views {
         for (subtree, mask) in &families {
             rows.push(Row::View(View { name: view.clone(), subtree: subtree.clone(), mask: mask.clone(), kind: 1, storage: 3, status: 1 }));
+        }
+        if random.chance(25) {
+            // all but a column
+            let table = table(random);
+            let subtree = [instance::base(table), &[random.of(instance::columns(table))]].concat();
+            rows.push(Row::View(View { name: view.clone(), subtree, mask: Vec::new(), kind: 2, storage: 3, status: 1 }));
         }
     }
     rows

@@ -1,7 +1,7 @@
 //! Walks from about held instances, on tables where somebody may read some of their columns and rows.
 
 use super::calls::caller;
-use super::world::{grant, held_key, make_room, mask, table, World, OWN_TABLES};
+use super::world::{any_column, grant, held_key, make_room, mask, table, World, OWN_TABLES};
 use crate::random::Random;
 use crate::reference::edits::Caller;
 use crate::reference::instance;
@@ -78,14 +78,6 @@ fn families(tables: &Tables) -> Vec<(Identifier, Vec<u8>)> {
         families.push((next.instance, any_column(next.key.table())));
     }
     families
-}
-
-/// The mask that lets the column of an instance differ.
-pub fn any_column(table: Table) -> Vec<u8> {
-    let place = instance::base(table).len();
-    let mut mask = vec![0xff; 2];
-    mask[place / 8] &= !(128 >> (place % 8));
-    mask
 }
 
 /// Lets one principal read by a view that includes (1) or excludes (2) everything, and some families against that.

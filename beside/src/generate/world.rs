@@ -249,6 +249,14 @@ pub fn mask(random: &mut Random, subtree: &[u32], world: &World) -> Vec<u8> {
     mask
 }
 
+/// The mask that lets the column of an instance differ.
+pub fn any_column(table: Table) -> Vec<u8> {
+    let place = instance::base(table).len();
+    let mut mask = vec![0xff; 2];
+    mask[place / 8] &= !(128 >> (place % 8));
+    mask
+}
+
 // ---- rows
 
 pub fn row(random: &mut Random, world: &World, table: Table) -> Row {
@@ -354,7 +362,8 @@ pub fn tables(random: &mut Random, world: &World) -> Tables {
     tables
 }
 
-/// Lets one principal edit rows: the empty context, a mapping, an access row for it, and a view above the tables' instances.
+/// Lets one principal edit rows: the empty context, a mapping, an access row for it, and a view that has some or all of the tables'
+/// instances.
 pub fn grant(random: &mut Random, world: &World, tables: &mut Tables) -> Mapping {
     let view = random.pick(&world.views).clone();
     let mut mapping = match row(random, world, Table::Mapping) {
@@ -362,16 +371,6 @@ pub fn grant(random: &mut Random, world: &World, tables: &mut Tables) -> Mapping
         _ => unreachable!(),
     };
     mapping.status = 1;
-    let subtree = match random.below(4) {
-        0 => {
-            let table = random.of(&[Table::Mapping, Table::Access, Table::View]);
-            let column = *instance::columns(table).last().unwrap();
-            let whole = instance::encode(column, &key(random, world, table)).unwrap();
-            whole[..whole.len().min(random.between(8, SUBTREE_LIMIT))].to_vec()
-        }
-        1 => vec![1],
-        _ => OWN_TABLES.to_vec(),
-    };
     let access = Access {
         group: mapping.group.clone(),
         prefix: Vec::new(),
@@ -384,12 +383,38 @@ pub fn grant(random: &mut Random, world: &World, tables: &mut Tables) -> Mapping
         storage: 3,
         status: 1,
     };
-    let view = View { name: view, subtree, mask: Vec::new(), kind: 1, storage: 3, status: 1 };
-    for row in [Row::Context(Context { name: Vec::new() }), Row::Mapping(mapping.clone()), Row::Access(access), Row::View(view)] {
+    let mut rows = vec![Row::Context(Context { name: Vec::new() }), Row::Mapping(mapping.clone()), Row::Access(access)];
+    for (subtree, mask, kind) in granted_families(random, world) {
+        rows.push(Row::View(View { name: view.clone(), subtree, mask, kind, storage: 3, status: 1 }));
+    }
+    for row in rows {
         make_room(random, tables, &row.key());
         tables.put(row);
     }
     mapping
+}
+
+/// Subtrees with their masks and types: all of the tables' instances, all but some columns of a table, some of its columns, or a row at
+/// one column or at all of them, by its front where its instance is long.
+fn granted_families(random: &mut Random, world: &World) -> Vec<(Identifier, Vec<u8>, u32)> {
+    let table = random.of(&[Table::Mapping, Table::Access, Table::View]);
+    let listed = instance::columns(table);
+    let mut some = listed.to_vec();
+    random.shuffle(&mut some);
+    some.truncate(random.between(1, listed.len()));
+    let columns = |kind: u32| some.iter().map(move |column| ([instance::base(table), &[*column]].concat(), Vec::new(), kind));
+    let all = (OWN_TABLES.to_vec(), Vec::new(), 1);
+    match random.below(8) {
+        0 => {
+            let mut front = instance::encode(some[0], &key(random, world, table)).expect("a legal key and a listed column");
+            front.truncate(random.between(8, SUBTREE_LIMIT));
+            vec![(front, if random.chance(50) { Vec::new() } else { any_column(table) }, 1)]
+        }
+        1 => vec![(vec![1], Vec::new(), 1)],
+        2 => columns(1).collect(),
+        3 => [all].into_iter().chain(columns(2)).collect(),
+        _ => vec![all],
+    }
 }
 
 pub fn make_room(random: &mut Random, tables: &mut Tables, key: &Key) {

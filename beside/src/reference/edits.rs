@@ -26,6 +26,15 @@ impl Edit {
             Edit::Remove(key) => key.legal(),
         }
     }
+
+    /// The columns that it writes: a put all that the table lists, a removal the status, which is the last of them.
+    fn columns(&self) -> &'static [u32] {
+        let listed = instance::columns(self.key().table());
+        match self {
+            Edit::Put(_) => listed,
+            Edit::Remove(_) => &listed[listed.len() - 1..],
+        }
+    }
 }
 
 #[derive(Clone, Debug, PartialEq, Eq)]
@@ -69,16 +78,15 @@ pub fn judge_principal(tables: &Tables, caller: &Caller, edit: &Edit) -> Number 
         return OUT_OF_RANGE;
     }
     let key = edit.key();
-    let status_column = match key.table() {
-        Table::Context => return CONTEXT_TABLE,
-        Table::Mapping => 5,
-        Table::Access => 9,
-        Table::View => 6,
-    };
-    let status = instance::encode(status_column, &key).expect("a legal key and a listed column");
-    let answer = decide(tables, &caller.request(WRITE, status));
-    if answer != SUCCESS {
-        return answer;
+    if key.table() == Table::Context {
+        return CONTEXT_TABLE;
+    }
+    for column in edit.columns() {
+        let instance = instance::encode(*column, &key).expect("a legal key and a listed column");
+        let answer = decide(tables, &caller.request(WRITE, instance));
+        if answer != SUCCESS {
+            return answer;
+        }
     }
     if is_absent_removal(tables, edit) {
         return ROW_ABSENT;

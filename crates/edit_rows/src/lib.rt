@@ -40,7 +40,7 @@ pub fn judge_place(w: &[u8], strict: bool, c: Operation, p: Place, bytes: &[u8])
         return presence;
     };
     if strict {
-        if !edit_rules::may_change(w, c, p, bytes) {
+        if !edit_storage::may_change(w, c, p, bytes) {
             return Edited::Faulty(Fault::StorageForbids);
         }
     }

@@ -1,3 +1,5 @@
-pub mod Judgements
+pub mod Examples
+pub mod Refusals
 pub mod Storages
 pub mod Outcomes
+pub mod Keys

@@ -1,12 +1,13 @@
 -- Edits of the rows held (document 01, "Edits" and "Where each number is met"): what they are, the storage rules, how they are judged by the row
 -- held, room, what they leave; who makes them, and how the tables judge a principal's. Assumes nothing.
 use mathlib.Core.Bool.{Bool, true, false, cond, not, _&&_, _||_}
-use mathlib.Core.List.{List, []}
+use mathlib.Core.List.{List, [], _∷_}
 use mathlib.Core.Option.{Option, none, some, Option·map}
 use Prim.Native.Nat.{ℕ}
 use lib.Dec.{eqb, leb}
 use lib.ListN.{length}
 use Rattle.answers.specs.declared.Decision.{Decision}
+use Rattle.answers.specs.declared.Decision.the-variants.{Allowed, Refused}
 use Rattle.answers.specs.declared.Fault.{Fault}
 use Rattle.answers.specs.declared.Fault.the-variants.{TableFull, RowAbsent, StorageForbids}
 use Rattle.answers.specs.Numbers.{causeNumber, faultNumber}
@@ -24,7 +25,7 @@ use Rattle.edit_rules.specs.declared.Edited.{Edited}
 use Rattle.edit_rules.specs.declared.Edited.the-variants.{Done, Barred, Faulty}
 use Rattle.edit_rules.specs.TableRows.{permanent, readOnly, RowOf, rowOf, rowIndex, storageOf, rowsOf, withRows}
 use Rattle.table_update.specs.Tables.{rowAt, putRow, removeRow}
-use Rattle.instance_encode.specs.Instances.{instance, statusColumn}
+use Rattle.instance_encode.specs.Instances.{columns, instance, statusColumn}
 
 -- ---- edits, as they are handed: an operation on a table, with a row's bytes or a key's, in the form of the image
 
@@ -154,14 +155,34 @@ callerOf model name level = record { securityModel = model; securityName = name;
 unfoldable pub legalCaller : Caller → Bool
 legalCaller c = within 1 modelMax (c .securityModel) && within 1 longestName (length (c .securityName)) && within noAuthNoPriv authPriv (c .securityLevel)
 
--- a principal's edit is judged as a write request in the empty context at the row's status instance
-unfoldable pub judgement : Tables → Caller → Edit → Decision
-judgement t c e =
-    decision t
-    (asked (c .securityModel) (c .securityName) (c .securityLevel) write [] (instance (e .table) (statusColumn (e .table)) (indexOfEdit e)))
-
 abbrev pub isContext : Table → Bool
 isContext Context = true
 isContext Mapping = false
 isContext Access = false
 isContext View = false
+
+-- ---- what the tables let a principal edit: a write request in the empty context at each column that is written; the first refusal is the answer
+
+-- a put writes every column that document 01 lists, also where the row held has the value already; a removal writes the status
+abbrev pub columnsWritten : Operation → Table → List ℕ
+columnsWritten Put t = columns t
+columnsWritten Remove t = statusColumn t ∷ []
+
+-- at a column of the row with this index
+abbrev pub columnJudged : Tables → Caller → Table → List ℕ → ℕ → Decision
+columnJudged ts c t index column =
+    decision ts (asked (c .securityModel) (c .securityName) (c .securityLevel) write [] (instance t column index))
+
+abbrev pub ifAllowed : Decision → Decision → Decision
+ifAllowed Allowed next = next
+ifAllowed (Refused cause) next = Refused cause
+
+abbrev pub firstRefusal : (ℕ → Decision) → List ℕ → Decision
+firstRefusal judged [] = Allowed
+firstRefusal judged (column ∷ columns) = ifAllowed (judged column) (firstRefusal judged columns)
+
+unfoldable pub judgementAt : Tables → Caller → Operation → Table → List ℕ → Decision
+judgementAt ts c o t index = firstRefusal (columnJudged ts c t index) (columnsWritten o t)
+
+abbrev pub judgement : Tables → Caller → Edit → Decision
+judgement ts c e = judgementAt ts c (e .operation) (e .table) (indexOfEdit e)

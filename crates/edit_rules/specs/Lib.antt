@@ -1,4 +1,3 @@
-pub mod Admission
 pub mod TableRows
 pub mod Edits
 pub mod Storage

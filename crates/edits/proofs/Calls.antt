@@ -31,8 +31,8 @@ use Rattle.edits.specs.Calls.{allowed, ownerJudged, principalJudged, own
 use Rattle.edit_rules.proofs.Outcomes.{tables}
 use Rattle.edit_rows.specs.Promise.{Edits}
 use Rattle.edit_rows.proofs.Stores.{storeRows, edits-unsound, edits-refused, edits-same}
-use Rattle.edit_rules.specs.declared.Admission.the-variants.{Granted, Denied}
-use Rattle.edit_rules.specs.Admission.{admission}
+use Rattle.edit_rights.specs.declared.Admission.the-variants.{Granted, Denied}
+use Rattle.edit_rights.specs.Admission.{admission}
 use Rattle.edits.specs.declared.Prepared.the-variants.{Ready, Unready}
 
 -- ---- what is handed

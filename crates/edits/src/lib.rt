@@ -1,6 +1,6 @@
 // The owner's and the principals' edits of a store. A row is handed in the form of the image, its fields' bytes one after the other, and a key likewise.
 use answers::Fault;
-use edit_rules::Admission;
+use edit_rights::Admission;
 use edit_rules::Edited;
 use image_judge::Surveyed;
 use image_layout::Layout;
@@ -86,12 +86,13 @@ pub fn principal_edit(
                 return Edited::Faulty(Fault::OutOfRange);
             }
             let key = &bytes[0..k];
-            let admission = edit_rules::admit(
+            let admission = edit_rights::admit(
                 store,
                 l,
                 security_model,
                 security_name,
                 security_level,
+                c,
                 t,
                 key,
             );

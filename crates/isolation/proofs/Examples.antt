@@ -26,7 +26,7 @@ use Rattle.decision_steps.specs.Request.{asked, legalRequest}
 use Rattle.decision_steps.specs.Decision.{bearsContext, mapsPrincipal, contextFits, candidate, chosenAccess, viewFor, inView, maskBit, agrees, matches}
 use Rattle.decision_steps.specs.Decision.{chosenView, decision, authority}
 use Rattle.rows.specs.declared.Operation.the-variants.{Put, Remove}
-use Rattle.edit_rules.specs.Edits.{Edit, editOf, Caller, indexOfEdit, legalEdit, mayPut, mayRemove, rowFault, isFull, applied, legalCaller, judgement}
+use Rattle.edit_rules.specs.Edits.{Edit, editOf, Caller, indexOfEdit, legalEdit, mayPut, mayRemove, rowFault, isFull, applied, legalCaller, judgementAt}
 use Rattle.walk_rules.specs.Walk.{walkOn, legalWalk, nextInstance, follows, mayRead, least}
 use Rattle.edits.specs.Calls.{ownerJudged, ownerEdit, principalJudged, principalEdit}
 use Rattle.edits.specs.Does.{Call, ask, owner, by, walk, Reply, replyNumber, HandsOctets}
@@ -100,7 +100,7 @@ annAsks viewType = ask (asked 3 ann 2 viewType [] (internet (2 ∷ 1 ∷ [])))
 -- ---- what a list is told, from no rows, and whether it meets the conditions
 
 unfoldable pub tells : List Call → List Told
-unfolding trace step ownerEdit ownerJudged principalEdit principalJudged judgement legalEdit legalCaller rowFault isFull applied mayPut mayRemove
+unfolding trace step ownerEdit ownerJudged principalEdit principalJudged judgementAt legalEdit legalCaller rowFault isFull applied mayPut mayRemove
     indexOfEdit keyFields rowFields faults sequenceFault integerFault legalRequest decision bearsContext mapsPrincipal contextFits candidate
     chosenAccess viewFor inView maskBit agrees matches chosenView same before begins walkOn legalWalk authority nextInstance follows mayRead least
 tells cs = trace noRows cs

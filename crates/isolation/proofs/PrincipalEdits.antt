@@ -1,5 +1,5 @@
 -- Principals' edits beside the circle.
--- A member's edit of the circle is judged by the circle's rows as by all rows: the tables' judgement is a decision of the member, and the row held is
+-- A member's edit of the circle is judged by the circle's rows as by all rows: the tables' judgement is by decisions of the member, and the row held is
 -- the circle's. Another principal's edit of the circle is refused, and so changes nothing; outside the circle it does not show in its rows.
 -- Assumes nothing.
 use mathlib.Core.Path.{_≡_, ap, ap₂, _∙_}
@@ -9,9 +9,10 @@ use Rattle.answers.specs.declared.Fault.the-variants.{OutOfRange, ContextTable}
 use Rattle.numbers.proofs.Bools.{split, not-true}
 use Rattle.rows.specs.Tables.{Tables}
 use Rattle.decision_steps.specs.Request.{asked, write}
-use Rattle.instance_encode.specs.Instances.{instance, statusColumn}
+use Rattle.instance_encode.specs.Instances.{instance}
 use Rattle.edit_rules.specs.declared.Edited.the-variants.{Faulty}
-use Rattle.edit_rules.specs.Edits.{Edit, Caller, indexOfEdit, legalEdit, legalCaller, isContext, judgement, faulted, settled}
+use Rattle.edit_rules.specs.Edits.{Edit, Caller, indexOfEdit, legalEdit, legalCaller, isContext, columnsWritten, judgementAt, judgement, faulted, settled}
+use Rattle.edit_rules.proofs.Refusals.{refusals-same}
 use Rattle.edits.specs.Calls.{allowed, principalJudged, principalEdit}
 use Rattle.edits.specs.Does.{by, edited}
 use Rattle.isolation.specs.Isolation.{Circle, ofCircle, isMember, findsRoom, othersRefused}
@@ -21,10 +22,12 @@ use Rattle.isolation.proofs.Edits.{circleOf, fault-circle, settled-in, 
 
 module _ (w : Circle) (t : Tables) (c : Caller) (e : Edit) where
   judgement-circle : Orderly w t → isMember w c ≡ true → judgement (circleRows w t) c e ≡ judgement t c e
-  unfolding judgement
+  unfolding judgementAt
   judgement-circle i m =
-      decision-keep w t i
-      (asked (c .securityModel) (c .securityName) (c .securityLevel) write [] (instance (e .table) (statusColumn (e .table)) (indexOfEdit e))) m
+      refusals-same
+      (λ column. decision-keep w t i
+      (asked (c .securityModel) (c .securityName) (c .securityLevel) write [] (instance (e .table) column (indexOfEdit e))) m)
+      (columnsWritten (e .operation) (e .table))
 
   judged-circle : Orderly w t → isMember w c ≡ true → ofCircle w e ≡ true → principalJudged (circleRows w t) c e ≡ principalJudged t c e
   unfolding principalJudged

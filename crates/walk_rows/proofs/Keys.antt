@@ -16,7 +16,7 @@ use Rattle.instance_encode.proofs.Keys.{key-runs}
 use Rattle.table_update.proofs.Stores.{rowKey}
 use Rattle.edit_rules.specs.TableRows.{rowOf, rowIndex}
 use Rattle.edit_rules.proofs.Outcomes.{row-index}
-use Rattle.edit_rules.proofs.Judgements.{front-index}
+use Rattle.edit_rules.proofs.Keys.{front-index}
 
 module _ (t : Table) (row key : List ℕ) (b : Octets row) (f : Whole t row) (e : key ≡ rowKey t row) where
   pub key-legal : faults (keyFields t) key ≡ none

@@ -1,7 +1,7 @@
 //! The part handwritten: the benchmark's other side has to do the same work.
 
 use crate::tally::Tally;
-use beside::generate::calls::edit;
+use beside::generate::calls::{edit, principal_call};
 use beside::generate::damage::damaged;
 use beside::generate::every;
 use beside::generate::matches;
@@ -11,7 +11,7 @@ use beside::generate::world::{tables, World};
 use beside::handwritten;
 use beside::random::Random;
 use beside::reference::decision::{decide, match_access, match_view};
-use beside::reference::edits::{owner_edit, Caller, Edit};
+use beside::reference::edits::{owner_edit, principal_edit, Caller, Edit};
 use beside::reference::image::{self, AgentRequest};
 use beside::reference::lines::{call_text, Call};
 use beside::reference::rows::*;
@@ -23,7 +23,7 @@ pub fn call(image: &[u8], r: &AgentRequest) -> u32 {
     handwritten::is_access_allowed(image, &request, &r.variable)
 }
 
-/// The hand-written edits on a store, beside the reference's on its tables; after each a decision and both matches.
+/// The hand-written edits on a store, beside the reference's on its tables; after each a decision, both matches and a principal's put.
 pub fn on_a_store(tally: &mut Tally, random: &mut Random, rounds: usize) {
     for _ in 0..rounds {
         let world = World::any(random);
@@ -73,8 +73,29 @@ pub fn on_a_store(tally: &mut Tally, random: &mut Random, rounds: usize) {
             for asked in [matches::match_view(random, &world, &held), matches::match_access(random, &world, &held)] {
                 check_match(tally, random, &store, &held, &asked);
             }
+            let asked = principal_call(random, &world, &held);
+            check_principal_put(tally, random, &mut store, &mut held, &asked);
         }
     }
+}
+
+/// A principal's put, and the store that it leaves; now and then on a store a byte short.
+fn check_principal_put(tally: &mut Tally, random: &mut Random, store: &mut [u8], held: &mut Tables, asked: &Call) {
+    let Call::Principal(caller, Edit::Put(row)) = asked else { return };
+    let bytes = image::row_bytes(row);
+    let short = random.chance(2);
+    let expected = match image::read_row(row.table(), &bytes) {
+        _ if short => 6,
+        Ok(row) => principal_edit(held, caller, &Edit::Put(row)),
+        Err(_) => 7,
+    };
+    let lent = &mut store[usize::from(short)..];
+    let got = handwritten::principal_put(lent, caller.model, &caller.name, caller.level, row.table() as u32, &bytes);
+    tally.meet("handwritten", format!("principal's put: {expected}"));
+    let image = image::write(held);
+    tally.check(got == expected && store[..image.len()] == image[..], || {
+        format!("handwritten: {} is {got}, not {expected}, or the rows differ", call_text(asked))
+    });
 }
 
 /// The key of the row that a match hands back and a view row's type (0 for an access row), or none, or a refusal.

@@ -99,6 +99,7 @@ fn program_part(tally: &mut Tally, settings: &Settings, name: &'static str) -> R
                     ("owner remove", &["0", "7", "10"]),
                     ("principal put", &["0", "1", "2", "3", "4", "5", "7", "9", "11", "12"]),
                     ("principal remove", &["0", "1", "2", "3", "4", "5", "7", "10", "11", "12"]),
+                    ("put, then removal, by some columns", &["0 and 0", "4 and 4", "5 and 0", "5 and 5", "5 and 10"]),
                     ("encode", &["oid", "7"]),
                     ("decode", &["instance", "13"]),
                     ("match view", &["included", "excluded", "none", "7"]),
@@ -124,6 +125,7 @@ fn call_part(tally: &mut Tally, settings: &Settings, name: &'static str) -> Resu
             &[
                 ("match view", &["included", "excluded", "none", "6", "7"]),
                 ("match access", &["own model", "model 0", "none", "6", "7"]),
+                ("principal's put", &["0", "1", "2", "3", "4", "5", "6", "7", "9", "11", "12"]),
                 ("walk", &["context", "mapping", "access", "view", "1", "2", "3", "4", "6", "7", "17"]),
             ],
         );

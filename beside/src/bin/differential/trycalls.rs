@@ -37,9 +37,10 @@ pub fn run(tally: &mut Tally, random: &mut Random, program: &mut Program, rounds
     for bytes in one_of_each().into_iter().chain(beyond_largest(&image::write(&largest(random)))) {
         compare(tally, program, Some(&bytes), &Input::of(vec![image_line()]));
     }
-    for (start, calls) in [storages(), ranges(), columns(), (Tables::default(), instances())] {
+    for (start, calls) in [storages(), ranges(), (Tables::default(), instances())] {
         compare(tally, program, Some(&image::write(&start)), &Input::calls(&calls));
     }
+    some_columns(tally, program);
     let (step_three, step_five) = (step_three(), step_five());
     for _ in 0..10 * rounds {
         matches(tally, program, random.pick(&step_three), access_match);
@@ -62,6 +63,19 @@ pub fn run(tally: &mut Tally, random: &mut Random, program: &mut Program, rounds
         refusals_when_full(tally, random, program);
         for fresh in [true, true, false, false] {
             isolation(tally, random, program, fresh, false);
+        }
+    }
+}
+
+/// Edits by views that have some columns only; how often a put is refused where the removal of its row is not.
+fn some_columns(tally: &mut Tally, program: &mut Program) {
+    let (start, calls) = columns();
+    let answers = answers(&compare(tally, program, Some(&image::write(&start)), &Input::calls(&calls)));
+    for (calls, answers) in calls.windows(2).zip(answers.windows(2)) {
+        if let [Call::Principal(_, Edit::Put(row)), Call::Principal(_, Edit::Remove(key))] = calls {
+            if row.key() == *key {
+                tally.meet(program.name, format!("put, then removal, by some columns: {} and {}", answers[0], answers[1]));
+            }
         }
     }
 }

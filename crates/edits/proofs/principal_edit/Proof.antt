@@ -1,5 +1,5 @@
 -- `edits::principal_edit` meets its contract. What is not ready is refused; a caller out of its ranges is 7; what is not admitted is 12 or 1 to 5,
--- an edit being judged as the removal of the key at the front of its bytes; otherwise what `change` leaves is what the principal's edit says
+-- the edit being judged by the index of the key at the front of its bytes; otherwise what `change` leaves is what the principal's edit says
 -- (`Calls`). Assumes nothing.
 use mathlib.Core.Path.{_≡_, sym, ap, _∙_}
 use mathlib.Core.Bool.{true}
@@ -8,17 +8,16 @@ use native.Mathlib.Omega.{arith}
 use borrow.Author.Needs.{needs}
 use borrow.Author.Tests.{not-true, not-false}
 use Rattle.rows.specs.Fields.{faults, span}
-use Rattle.rows.specs.Rows.{keyFields}
+use Rattle.rows.specs.Rows.{keyFields, indexOf}
 use Rattle.numbers.specs.BigEndian.{Octets}
 use Rattle.image_layout.specs.Layout.{layoutOf}
 use Rattle.image_judge.specs.Faults.{tablesAt}
 use Rattle.image.specs.Store.{isSound}
-use Rattle.rows.specs.declared.Operation.the-variants.{Remove}
-use Rattle.edit_rules.specs.Edits.{Caller, callerOf, Edit, editOf, fieldsOf, legalCaller, legalEdit, judgement, isContext}
+use Rattle.edit_rules.specs.Edits.{Caller, callerOf, Edit, editOf, fieldsOf, indexOfEdit, legalCaller, legalEdit, judgementAt, judgement, isContext}
 use Rattle.edit_rows.proofs.Stores.{sound-laid, key-within}
-use Rattle.edit_rules.specs.declared.Admission.the-variants.{Granted}
-use Rattle.edit_rules.specs.Admission.{admission}
-use Rattle.edit_rules.proofs.Judgements.{key-part, key-legal, key-judged}
+use Rattle.edit_rights.specs.declared.Admission.the-variants.{Granted}
+use Rattle.edit_rights.specs.Admission.{admission}
+use Rattle.edit_rules.proofs.Keys.{key-part, key-legal, key-index}
 use Rattle.edits.proofs.Calls.{ready, ready-whole, unready-principal, granted-free, caller-illegal, principal-denied, principal-granted}
 use Rattle.edits.proofs.principal_edit.Statement.{statement}
 use Rattle.edits.proofs.principal_edit.Tie as tie
@@ -60,6 +59,7 @@ legal-at j = j .before .before .before
 admitted : (j : tie.After-admit) → let k = ready-at (legal-at j) in let s = start k in
     j .admit .result ≡ admission (isContext (wanted s .table)) (judgement (tablesAt (s .args .store .now) (k .before .prepared2 .given .0 .0))
     (caller s) (wanted s))
+unfolding indexOfEdit
 admitted j =
     let k = ready-at (legal-at j) in
     let s = start k in
@@ -67,8 +67,8 @@ admitted j =
     let T = tablesAt (a .store .now) (k .before .prepared2 .given .0 .0) in
     j .admit .ensures
     ∙ ap (admission (isContext (a .t)))
-    (ap (λ v. judgement T (caller s) (editOf Remove (a .t) v)) (key-part (a .t) (a .bytes .now) (sym (facts k .3)))
-    ∙ key-judged (a .c) (a .t) (a .bytes .now) (handed-bytes k) (whole k) T (caller s))
+    (ap (judgementAt T (caller s) (a .c) (a .t)) (ap (indexOf (a .t)) (key-part (a .t) (a .bytes .now) (sym (facts k .3)))
+    ∙ key-index (a .c) (a .t) (a .bytes .now) (handed-bytes k) (whole k)))
 
 returns : tie.Need-returns
 returns c =

@@ -12,7 +12,7 @@ use Rattle.rows.specs.Fields.{faults}
 use Rattle.rows.specs.Rows.{keyFields}
 use Rattle.rows.proofs.Appends.{key-room}
 use Rattle.table_update.proofs.Stores.{rowKey}
-use Rattle.edit_rules.proofs.Judgements.{key-part}
+use Rattle.edit_rules.proofs.Keys.{key-part}
 use Rattle.walk_rows.proofs.Keys.{key-legal, runs-room, runs-index}
 use Rattle.walk_rows.proofs.is_row_above.Statement.{statement}
 use Rattle.walk_rows.proofs.is_row_above.Tie as tie

@@ -10,7 +10,7 @@ use Rattle.rows.proofs.Appends.{key-room}
 use Rattle.decision_parts.specs.Parts.{rowsOf}
 use Rattle.instance_encode.specs.Instances.{instance}
 use Rattle.table_update.proofs.Stores.{rowKey}
-use Rattle.edit_rules.proofs.Judgements.{key-part}
+use Rattle.edit_rules.proofs.Keys.{key-part}
 use Rattle.walk_rows.specs.Reading.{readable}
 use Rattle.walk_rows.proofs.Keys.{key-legal, key-index}
 use Rattle.walk_rows.proofs.is_row_readable.Statement.{statement}

@@ -1,11 +1,11 @@
--- `edit_rules::may_replace` meets its contract: each return goes by the tests that led there. Assumes nothing.
+-- `edit_storage::may_replace` meets its contract: each return goes by the tests that led there. Assumes nothing.
 use mathlib.Core.Path.{ap}
 use mathlib.Core.Bool.{not}
 use borrow.Author.Needs.{needs}
 use borrow.Author.Tests.{eq-eqb, ne-eqb}
 use Rattle.edit_rules.specs.Edits.{mayPut}
-use Rattle.edit_rules.proofs.may_replace.Statement.{statement}
-use Rattle.edit_rules.proofs.may_replace.Tie as tie
+use Rattle.edit_storage.proofs.may_replace.Statement.{statement}
+use Rattle.edit_storage.proofs.may_replace.Tie as tie
 
 returns : tie.Need-returns
 unfolding mayPut

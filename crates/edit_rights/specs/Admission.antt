@@ -3,9 +3,9 @@ use mathlib.Core.Bool.{Bool, true, false}
 use Rattle.answers.specs.declared.Decision.{Decision}
 use Rattle.answers.specs.declared.Decision.the-variants.{Allowed, Refused}
 use Rattle.answers.specs.declared.Fault.the-variants.{ContextTable}
 use Rattle.edit_rules.specs.declared.Edited.the-variants.{Barred, Faulty}
-use Rattle.edit_rules.specs.declared.Admission.{Admission}
-use Rattle.edit_rules.specs.declared.Admission.the-variants.{Granted, Denied}
+use Rattle.edit_rights.specs.declared.Admission.{Admission}
+use Rattle.edit_rights.specs.declared.Admission.the-variants.{Granted, Denied}
 
 -- of a context row, and of the judgement
 abbrev pub admission : Bool → Decision → Admission

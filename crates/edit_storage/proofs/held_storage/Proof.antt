@@ -1,11 +1,11 @@
--- `edit_rules::held_storage` meets its contract: the storage of the row held is read where it lies, where one is held. Assumes nothing.
+-- `edit_storage::held_storage` meets its contract: the storage of the row held is read where it lies, where one is held. Assumes nothing.
 use Prim.Native.Nat.{_+_, _≤_}
 use native.Mathlib.Omega.{arith}
 use lib.ListN.{length}
 use borrow.Author.Tests.{not-true, not-false}
 use Rattle.edit_rules.proofs.Storages.{piece-room}
-use Rattle.edit_rules.proofs.held_storage.Statement.{statement}
-use Rattle.edit_rules.proofs.held_storage.Tie as tie
+use Rattle.edit_storage.proofs.held_storage.Statement.{statement}
+use Rattle.edit_storage.proofs.held_storage.Tie as tie
 
 -- the row held lies within the bytes
 held : (e : tie.Else1) → let a = e .before .before .args in (a .p .from + 2 ≤ a .p .end) × (a .p .end ≤ length (a .w .now))

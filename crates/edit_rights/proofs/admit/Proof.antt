@@ -1,13 +1,13 @@
--- `edit_rules::admit` meets its contract: each return is a case of `admission`, once the test and the judgement before it are known. Assumes nothing.
+-- `edit_rights::admit` meets its contract: each return is a case of `admission`, once the test and the judgement before it are known. Assumes nothing.
 use mathlib.Core.Bool.{false}
 use mathlib.Core.Path.{_≡_, sym, ap₂, _∙_}
-use Rattle.rows.specs.declared.Operation.the-variants.{Remove}
+use Rattle.rows.specs.Rows.{indexOf}
 use borrow.Author.Needs.{needs}
 use Rattle.image_judge.specs.Faults.{tablesAt}
-use Rattle.edit_rules.specs.Edits.{callerOf, editOf, isContext, judgement}
-use Rattle.edit_rules.specs.Admission.{admission}
-use Rattle.edit_rules.proofs.admit.Statement.{statement}
-use Rattle.edit_rules.proofs.admit.Tie as tie
+use Rattle.edit_rules.specs.Edits.{callerOf, isContext, judgementAt}
+use Rattle.edit_rights.specs.Admission.{admission}
+use Rattle.edit_rights.proofs.admit.Statement.{statement}
+use Rattle.edit_rights.proofs.admit.Tie as tie
 
 abbrev start : tie.After-is-context → tie.Start
 start i = i .before .before .before .before
@@ -21,7 +21,8 @@ judge-edit-requires c κs = start (c .before) .pre
 -- the row is of no context, and what was judged
 judged : (j : tie.After-judge-edit) → let a = start (j .before .before) .args in
     admission false (j .judge-edit .result) ≡ admission (isContext (a .t))
-    (judgement (tablesAt (a .w .now) (a .l)) (callerOf (a .security-model) (a .security-name .now) (a .security-level)) (editOf Remove (a .t) (a .key .now)))
+    (judgementAt (tablesAt (a .w .now) (a .l)) (callerOf (a .security-model) (a .security-name .now) (a .security-level)) (a .c) (a .t)
+    (indexOf (a .t) (a .key .now)))
 judged j = let e = j .before in ap₂ admission (sym (e .if1 .left) ∙ e .before .is-context .ensures) (j .judge-edit .ensures)
 
 returns-2 : tie.Need-returns-2

@@ -1,11 +1,11 @@
--- `edit_rules::may_change` meets its contract: in each arm the change is known, and the rule is that of the definition. Assumes nothing.
+-- `edit_storage::may_change` meets its contract: in each arm the change is known, and the rule is that of the definition. Assumes nothing.
 use mathlib.Core.Path.{ap, ap₂, _∙_}
 use mathlib.Core.Bool.{not}
 use mathlib.Core.Option.{some}
 use borrow.Author.Needs.{needs}
 use Rattle.edit_rules.specs.Edits.{isFixed, mayPut, mayRemove}
-use Rattle.edit_rules.proofs.may_change.Statement.{statement}
-use Rattle.edit_rules.proofs.may_change.Tie as tie
+use Rattle.edit_storage.proofs.may_change.Statement.{statement}
+use Rattle.edit_storage.proofs.may_change.Tie as tie
 
 storage-requires : tie.Need-storage-requires
 storage-requires c κs = c .before .before .before .before .before .pre .of-put (c .enum-told .given .1)
