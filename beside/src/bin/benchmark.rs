@@ -108,6 +108,18 @@ mod proved {
                 key: *mut [u8; KEY_MAX],
             ) -> usize;
             fn bench_owner_edit(store: *mut u8, store_len: usize, operation: u32, table: u32, bytes: *const u8, bytes_len: usize) -> u32;
+            fn bench_principal_edit(
+                store: *mut u8,
+                store_len: usize,
+                model: u32,
+                name: *const u8,
+                name_len: usize,
+                level: u32,
+                operation: u32,
+                table: u32,
+                bytes: *const u8,
+                bytes_len: usize,
+            ) -> u32;
             fn bench_read_image(image: *const u8, image_len: usize, store: *mut [u8; ROOM]) -> u32;
             fn bench_write_image(store: *const u8, store_len: usize, out: *mut u8, out_len: usize) -> u64;
         }
@@ -160,6 +172,12 @@ mod proved {
 
         pub fn owner_remove(store: &mut [u8], table: u32, key: &[u8]) -> u32 {
             unsafe { bench_owner_edit(store.as_mut_ptr(), store.len(), 1, table, key.as_ptr(), key.len()) }
+        }
+
+        pub fn principal_put(store: &mut [u8], model: u32, name: &[u8], level: u32, table: u32, row: &[u8]) -> u32 {
+            unsafe {
+                bench_principal_edit(store.as_mut_ptr(), store.len(), model, name.as_ptr(), name.len(), level, 0, table, row.as_ptr(), row.len())
+            }
         }
 
         pub fn read_image(image: &[u8], store: &mut [u8; ROOM]) -> u32 {
@@ -324,7 +342,7 @@ fn full() -> Tables {
     tables
 }
 
-/// Full tables in which the last principal reads by the view in the empty context. Its rows are all of one type: the first has every
+/// Full tables in which the last principal reads and writes by the view in the empty context. Its rows are all of one type: the first has every
 /// instance below it, the others lie below the view table, with 64 parts each, and match none.
 #[cfg(feature = "store")]
 fn walked(kind: u32) -> Tables {
@@ -585,6 +603,33 @@ fn store_rows(bench: &mut Bench) {
     bench.differ |= a != b || a[..] != image[..];
 }
 
+/// Puts of the last principal, of rows that are held: of three columns, six and four, all of them granted; and one refused at the first
+/// column.
+#[cfg(feature = "store")]
+fn principal_rows(bench: &mut Bench) {
+    use proved::store;
+
+    let caller = name(b'n', 63);
+    let (granted, denied) = (walked(1), walked(2));
+    let rows = [
+        ("a mapping row", &granted, Row::Mapping(granted.mappings[0].clone())),
+        ("an access row", &granted, Row::Access(granted.accesses[0].clone())),
+        ("a view row", &granted, Row::View(granted.views[95].clone())),
+        ("an access row, refused at the first column", &denied, Row::Access(denied.accesses[0].clone())),
+    ];
+    for (title, tables, row) in rows {
+        let (table, row) = (row.table() as u32, image::row_bytes(&row));
+        let image = image::write(tables);
+        let (mut a, mut b) = (store_of(&image), store_of(&image));
+        bench.row(
+            &format!("principal's put, full tables, {title}"),
+            || u64::from(store::principal_put(black_box(&mut a[..]), MODEL, black_box(&caller), 3, table, black_box(&row))),
+            || u64::from(handwritten::principal_put(black_box(&mut b[..]), MODEL, black_box(&caller), 3, table, black_box(&row))),
+        );
+        bench.differ |= a != b;
+    }
+}
+
 fn main() -> ExitCode {
     let mut bench = Bench { batches: 41, nanoseconds: 2_000_000, only: String::new(), differ: false };
     let mut words = std::env::args().skip(1);
@@ -609,6 +654,7 @@ fn main() -> ExitCode {
         store_rows(&mut bench);
         match_rows(&mut bench);
         walk_rows(&mut bench);
+        principal_rows(&mut bench);
     }
     println!();
     println!("{} batches of {} ms of processor time on each side, in turn.", bench.batches, bench.nanoseconds / 1_000_000);

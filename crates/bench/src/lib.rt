@@ -13,7 +13,7 @@ ghost use Rattle.edits.specs.Calls.{editedNumber, OwnerEdits};
 ghost use Rattle.image_transfer.specs.Transfer.{loadedNumber, Reads, Writes};
 ghost use Rattle.bench.specs.Measured.{operationNumbered, tableNumbered, lengthNumber, Numbered};
 
-fn table_numbered(n: u32) -> Table
+pub fn table_numbered(n: u32) -> Table
     ensures { λ r. ⌜ r ≡ tableNumbered n ⌝ }
 {
     if n == 0 {
@@ -28,7 +28,7 @@ fn table_numbered(n: u32) -> Table
     Table::View
 }
 
-fn operation_numbered(n: u32) -> Operation
+pub fn operation_numbered(n: u32) -> Operation
     ensures { λ r. ⌜ r ≡ operationNumbered n ⌝ }
 {
     if n == 0 {
