@@ -603,28 +603,33 @@ fn store_rows(bench: &mut Bench) {
     bench.differ |= a != b || a[..] != image[..];
 }
 
-/// Puts of the last principal, of rows that are held: of three columns, six and four, all of them granted; and one refused at the first
-/// column.
+/// Puts of rows that are held: of three columns, six and four, all of them granted; and one refused at the first column.
 #[cfg(feature = "store")]
 fn principal_rows(bench: &mut Bench) {
     use proved::store;
 
-    let caller = name(b'n', 63);
+    let mut ridge = ridge::tables();
+    ridge.accesses[0].write = "all".into();
     let (granted, denied) = (walked(1), walked(2));
+    let last = name(b'n', 63);
     let rows = [
-        ("a mapping row", &granted, Row::Mapping(granted.mappings[0].clone())),
-        ("an access row", &granted, Row::Access(granted.accesses[0].clone())),
-        ("a view row", &granted, Row::View(granted.views[95].clone())),
-        ("an access row, refused at the first column", &denied, Row::Access(denied.accesses[0].clone())),
+        ("the Ridge tables, a mapping row", &ridge, &Name::from("ann"), Row::Mapping(ridge.mappings[0].clone())),
+        ("the Ridge tables, an access row", &ridge, &Name::from("ann"), Row::Access(ridge.accesses[0].clone())),
+        ("full tables, a mapping row", &granted, &last, Row::Mapping(granted.mappings[0].clone())),
+        ("full tables, an access row", &granted, &last, Row::Access(granted.accesses[0].clone())),
+        ("full tables, a view row", &granted, &last, Row::View(granted.views[95].clone())),
+        ("full tables, an access row, refused at the first column", &denied, &last, Row::Access(denied.accesses[0].clone())),
     ];
-    for (title, tables, row) in rows {
+    for (title, tables, caller, row) in rows {
         let (table, row) = (row.table() as u32, image::row_bytes(&row));
         let image = image::write(tables);
         let (mut a, mut b) = (store_of(&image), store_of(&image));
+        let number = handwritten::principal_put(&mut b[..], MODEL, caller, 3, table, &row);
+        bench.differ |= number != if title.contains("refused") { 5 } else { 0 };
         bench.row(
-            &format!("principal's put, full tables, {title}"),
-            || u64::from(store::principal_put(black_box(&mut a[..]), MODEL, black_box(&caller), 3, table, black_box(&row))),
-            || u64::from(handwritten::principal_put(black_box(&mut b[..]), MODEL, black_box(&caller), 3, table, black_box(&row))),
+            &format!("principal's put, {title}"),
+            || u64::from(store::principal_put(black_box(&mut a[..]), MODEL, black_box(caller), 3, table, black_box(&row))),
+            || u64::from(handwritten::principal_put(black_box(&mut b[..]), MODEL, black_box(caller), 3, table, black_box(&row))),
         );
         bench.differ |= a != b;
     }

@@ -29,12 +29,13 @@ use Rattle.rows.proofs.Inverse.{span-whole}
 use Rattle.numbers.specs.BigEndian.{Octets}
 use Rattle.image_layout.specs.declared.Layout.{Layout}
 use Rattle.image_layout.specs.declared.Extent.{Extent}
-use Rattle.image_layout.specs.Layout.{Inside, endOf, layoutOf, extentOf}
+use Rattle.image_layout.specs.Layout.{Inside, endOf, rowsIn, layoutOf, extentOf}
 use Rattle.image_judge.specs.Faults.{SoundLayout, tablesAt}
 use Rattle.image.specs.Store.{isSound, held}
 use Rattle.image.proofs.Surveys.{sound-layout}
 use Rattle.table_update.specs.declared.Place.{Place}
-use Rattle.table_update.specs.Exchange.{tableRows, oneIf, rowsBefore, isHeld, Sought, ImageIn, TablePlace, RoomFor, oneRow, Exchanges}
+use Rattle.table_update.specs.Exchange.{tableRows, oneIf, rowsBefore, isHeld, Rising, Sought, ImageIn, TablePlace, RoomFor, oneRow, Exchanges}
+use Rattle.table_update.proofs.Keys.{rising}
 use Rattle.table_update.proofs.Splits.{length-rows}
 use Rattle.table_update.proofs.Stores.{rowKey, sound-whole, sound-ascends, sound-put, sound-removed, sought-exchanges, one-row}
 use Rattle.table_update.proofs.Rooms.{image-in, room-for, room-removed}
@@ -47,7 +48,8 @@ use Rattle.edit_rules.specs.Edits.{Outcome, outcome, editedNumber, editOf, fiel
 use Rattle.edit_rules.specs.TableRows.{rowIndex, rowsOf}
 use Rattle.edit_rules.specs.Storage.{storageIn, storageAt, StorageKnown, placeFault, placed, fullAt}
 use Rattle.edit_rules.proofs.Storages.{storage-room, storage-at, held-storage}
-use Rattle.edit_rules.proofs.Outcomes.{afterwards, judged, changed, comes, tables, tables-ext, rows-ascend, rows-in, key-whole, edit-change}
+use Rattle.edit_rules.proofs.Outcomes.{afterwards, judged, changed, comes, tables, tables-ext, rows-ascend, rows-in, key-whole, key-of, edit-change}
+use Rattle.edit_rules.proofs.Keys.{key-part}
 use Rattle.edit_rows.specs.Promise.{answered, left, Edits, lengthIn}
 
 -- each table of a sound store lies within it
@@ -73,6 +75,11 @@ module _ {w : List ℕ} {l : Layout} (h : isSound w ≡ true) (q : l ≡ layoutO
   image-laid e = rw (e ∙ ap (λ k. endOf w (k .views)) q) (image-in w h)
 
 -- as the code seeks: in an extent that is known, by the bytes up to k
+pub rising-laid : (c : Operation) (t : Table) (w bytes : List ℕ) {l : Layout} {x : Extent} {k : ℕ} → isSound w ≡ true → Octets w → Octets bytes
+    → faults (fieldsOf c t) bytes ≡ none → l ≡ layoutOf w → x ≡ extentOf t l → k ≡ span (keyFields t) bytes → Rising (take (k - 0) bytes) (rowsIn w x)
+rising-laid c t w bytes h b d f q y e =
+    rw (key-part t bytes (sym e), y ∙ ap (extentOf t) q) (rising (key-of c t bytes d f) (tableRows t w) (sound-whole t w h b) (sound-ascends t w h))
+
 pub sought-laid : (t : Table) (w bytes : List ℕ) {l : Layout} {x : Extent} {k : ℕ} {p : Place} → l ≡ layoutOf w → x ≡ extentOf t l
     → k ≡ span (keyFields t) bytes → Sought w x (take (k - 0) bytes) p → Sought w (extentOf t (layoutOf w)) (rowKey t bytes) p
 sought-laid t w bytes {l} {x} {k} q y e s = let z : k - 0 ≡ span (keyFields t) bytes = omega arith in rw (← q, ← y, ← z) s

@@ -1,3 +1,4 @@
 pub mod Walks
 pub mod Limits
 pub mod Layouts
+pub mod Bisections

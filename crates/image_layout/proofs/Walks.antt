@@ -8,12 +8,13 @@ use Prim.Native.Nat.{ℕ, zero, suc, _+_, _-_, _*_, _≤_, _<_}
 use native.Mathlib.Nat.{add-zero}
 use native.Mathlib.Numerals.{add-one}
 use native.Mathlib.Omega.{arith}
-use lib.ListN.{length, take, drop, getD, drop-of-length-le}
+use lib.ListN.{length, take, drop, getD, drop-of-length-le, take-append-drop}
 use lib.Seq.{drop-drop, drop-cons, getD-drop}
 use Rattle.numbers.specs.BigEndian.{Octets}
 use Rattle.numbers.proofs.BigEndian.{octets-drop}
 use Rattle.image_layout.specs.declared.Extent.{Extent}
 use Rattle.image_layout.specs.Layout.{pair, pairs, total, cut, lengthsIn, rowsIn, endOf, Inside, mostPair}
+use Rattle.image_layout.proofs.Layouts.{total-append}
 
 -- ---- a part of the bytes
 
@@ -64,6 +65,11 @@ total-most zero v b = omega arith
 total-most (suc n) v b = omega (arith, b 0, b 1, total-most n (drop 2 v) (octets-drop 2 v b))
 
 -- ---- the walk
+
+drop-cut : (i : ℕ) (ls v : List ℕ) → drop i (cut ls v) ≡ cut (drop i ls) (drop (total (take i ls)) v)
+drop-cut zero ls v = refl
+drop-cut (suc i) [] v = refl
+drop-cut (suc i) (l ∷ ls) v = drop-cut i ls (drop l v) ∙ ap (cut (drop i ls)) (drop-drop (total (take i ls)) l v)
 
 -- the rows that are left
 abbrev pub rest : List ℕ → Extent → ℕ → ℕ → List (List ℕ)
@@ -117,3 +123,20 @@ module _ {w : List ℕ} {x : Extent} {i g o : ℕ} (k : Walk w x i g o) where
 
   pub walk-end : x .count ≤ i → o ≡ endOf w x
   walk-end h = omega (arith, ap total (pairs-over (x .count) i (drop (x .lengths) w) h), k .row-place)
+
+  -- they are the extent's but for those passed
+  pub rest-drop : rest w x i o ≡ drop i (rowsIn w x)
+  rest-drop =
+      let l = lengthsIn w x in
+      let e : o ≡ x .rows + total (take i l) = omega (arith, k .row-place, ap total (take-append-drop i l), total-append (take i l) (drop i l)) in
+      sym (drop-cut i l (drop (x .rows) w) ∙ ap (cut (drop i l)) (drop-drop (total (take i l)) (x .rows) w ∙ ap (λ n. drop n w) (sym e)))
+
+pub none-left : (w : List ℕ) (x : Extent) → drop (x .count) (rowsIn w x) ≡ []
+none-left w x =
+    let k : Walk w x (x .count) (x .lengths + 2 * x .count) (endOf w x) =
+    record {
+      passed = omega arith;
+      length-place = refl;
+      row-place = omega (arith, ap total (pairs-over (x .count) (x .count) (drop (x .lengths) w) (omega arith)));
+    } in
+    sym (rest-drop k) ∙ rest-end k (omega arith)

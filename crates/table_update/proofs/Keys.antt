@@ -1,6 +1,7 @@
 -- A key's bytes against a row: the row's front, as long as the key, stands to the key as the row's index to the key's (`KeyOf`).
 -- Only bytes as far as the key's length count in an order (`before-front`), and fronts that hold indices compare as these do, whatever
--- follows them (`Compares` of crate `rows`). A key is the front of a whole row, or stands by itself. Assumes nothing.
+-- follows them (`Compares` of crate `rows`). A key is the front of a whole row, or stands by itself. Whole rows
+-- that ascend by their indices rise, as the key sees them. Assumes nothing.
 use mathlib.Core.Path.{_≡_, refl, sym, ap, ap₂, _∙_}
 use mathlib.Core.Bool.{true, false, _&&_, _||_, and-false, or-false}
 use mathlib.Core.List.{List, [], _∷_, _++_, append-nil}
@@ -9,9 +10,11 @@ use Prim.Native.Nat.{ℕ}
 use lib.Dec.{eqb, ltb}
 use lib.ListN.{length, take, drop, take-append-drop}
 use lib.Seq.{take-at}
+use Rattle.numbers.specs.Lists.{every}
 use Rattle.numbers.specs.Order.{same, before}
-use Rattle.numbers.proofs.Bools.{split, test-ext, and-left}
-use Rattle.numbers.proofs.Orders.{same-true, same-eq, before-total}
+use Rattle.numbers.proofs.Bools.{split, clash, test-ext, and-left, and-both}
+use Rattle.numbers.proofs.Orders.{same-true, same-eq, before-irrefl, before-asym, before-total}
+use Rattle.numbers.proofs.Greatest.{Under, Ascends, under-trans}
 use Rattle.rows.specs.declared.Table.{Table}
 use Rattle.rows.specs.Fields.{Field, faults, span, values, index}
 use Rattle.rows.specs.Rows.{keyFields, rowFields, restFields, indexOf}
@@ -24,7 +27,7 @@ use Rattle.image_layout.specs.declared.Extent.{Extent}
 use Rattle.image_layout.specs.Layout.{cut, lengthsIn, rowsIn}
 use Rattle.image_judge.specs.Faults.{tableFault}
 use Rattle.image_judge.proofs.Sound.{whole-first, sound-rest}
-use Rattle.table_update.specs.Exchange.{front}
+use Rattle.table_update.specs.Exchange.{front, Rising}
 
 -- ---- an order by the front
 
@@ -113,3 +116,26 @@ whole-cut t prev (l ∷ ls) v b h =
 
 pub whole-rows : (t : Table) (w : List ℕ) (x : Extent) → Octets w → tableFault t [] (rowsIn w x) ≡ none → Whole t (rowsIn w x)
 whole-rows t w x b h = whole-cut t [] (lengthsIn w x) (drop (x .rows) w) (octets-drop (x .rows) w b) h
+
+-- ---- rows that ascend rise, as a key sees them
+
+module _ {t : Table} {key i : List ℕ} (k : KeyOf t key i) where
+  -- a row of a greater index stands above the key
+  above : {r j : List ℕ} → Stand key i r j → before i j ≡ true → before key (front key r) ≡ true
+  above {r} {j} (lower b m) h = clash h (before-asym j i m)
+  above {r} {j} (equal b m e) h = clash (rw e at h) (before-irrefl i)
+  above {r} {j} (upper b m e) h = before-total (front key r) key m b
+
+  all-above : (rs : List (List ℕ)) → Whole t rs → Under (indexOf t) i rs → every (λ r. before key (front key r)) rs ≡ true
+  all-above [] a u = refl
+  all-above (r ∷ rs) a u = and-both (above (stands (k r (a .0) (a .1))) (u .0)) (all-above rs (a .2) (u .1))
+
+  -- one that does not stand before the key has no lesser index, and those behind it have greater ones
+  behind : {r j : List ℕ} → Stand key i r j → before (front key r) key ≡ false → (rs : List (List ℕ)) → Under (indexOf t) j rs → Under (indexOf t) i rs
+  behind (lower b m) h rs u = clash b h
+  behind (equal b m e) h rs u = rw e at u
+  behind {r} {j} (upper b m e) h rs u = under-trans (indexOf t) i j rs e u
+
+  pub rising : (rs : List (List ℕ)) → Whole t rs → Ascends (indexOf t) rs → Rising key rs
+  rising [] a s = tt
+  rising (r ∷ rs) a s = ((λ h. all-above rs (a .2) (behind (stands (k r (a .0) (a .1))) h rs (s .0))), rising rs (a .2) (s .1))

@@ -1,26 +1,28 @@
--- A walk that seeks a key in a table: the rows passed stand before it, so that how many do, and whether the next has it, is settled by
--- the rows that are left (`Seeks`). How the next row stands to the key takes the walk on or ends it: a row that stands before the key
--- is passed, and any other, or the rows' end, is the key's place. Assumes nothing.
+-- A key sought in a table by bisection. The rows before lo stand before it, so that how many do, and whether the next has it, is settled by the rows that
+-- are left (`Seeks`); from hi on none stands before it or has it (`Behind`). With a row that does not stand above the key, those in front of it stand
+-- before it, since the rows rise (`passed`); so the row in the middle takes lo up, takes hi down, or is the key's place. Assumes nothing.
 use mathlib.Core.Path.{_≡_, refl, sym, ap, _∙_}
 use mathlib.Core.Bool.{Bool, true, false}
 use mathlib.Core.List.{List, [], _∷_}
-use Prim.Native.Nat.{ℕ, zero, suc, _+_, _*_, _≤_, _<_}
+use Prim.Native.Nat.{ℕ, zero, suc, _+_, _-_, _*_, _≤_, _<_}
 use native.Mathlib.Nat.{add-zero}
 use native.Mathlib.Omega.{arith}
-use lib.ListN.{take, drop, getD, take-append-drop}
-use lib.Seq.{drop-drop, getD-drop}
+use lib.ListN.{drop, getD}
+use lib.Seq.{getD-drop}
+use Rattle.numbers.specs.Lists.{every}
 use Rattle.numbers.specs.Order.{same, before}
+use Rattle.numbers.proofs.Bools.{clash, is-true, and-left, and-right}
 use Rattle.numbers.proofs.Orders.{same-refl, same-sym, before-irrefl, before-asym, before-not-same}
 use Rattle.octets.specs.declared.Order.{Order}
 use Rattle.octets.specs.declared.Order.the-variants.{Below, Equal, Above}
 use Rattle.octets.specs.Order.{order}
 use Rattle.octets.proofs.Orders.{order-below, order-equal, order-above}
 use Rattle.image_layout.specs.declared.Extent.{Extent}
-use Rattle.image_layout.specs.Layout.{pair, total, cut, lengthsIn, rowsIn}
-use Rattle.image_layout.proofs.Layouts.{total-append}
-use Rattle.image_layout.proofs.Walks.{piece, rest, Walk, pairs-next, rest-slice, rest-end}
+use Rattle.image_layout.specs.Layout.{pair, pairs, total, lengthsIn, rowsIn, Inside}
+use Rattle.image_layout.proofs.Walks.{piece, rest, Walk, pairs-next, rest-slice, rest-drop, none-left}
+use Rattle.image_layout.proofs.Bisections.{Bisection, bisection-start, bisection-up, bisection-down, middle, middle-more}
 use Rattle.table_update.specs.declared.Place.{Place}
-use Rattle.table_update.specs.Exchange.{oneIf, front, rowsBefore, isHeld, PlaceIn, Sought}
+use Rattle.table_update.specs.Exchange.{oneIf, front, rowsBefore, isHeld, Rising, PlaceIn, Sought}
 
 -- ---- the rows at a place of a walk
 
@@ -28,24 +30,13 @@ use Rattle.table_update.specs.Exchange.{oneIf, front, rowsBefore, isHeld
 getD-first : {A : Type 0} (xs : List A) (i : ℕ) (d : A) → getD xs i d ≡ getD (drop i xs) 0 d
 getD-first xs i d = ap (λ j. getD xs j d) (sym (add-zero i)) ∙ sym (getD-drop i xs 0 d)
 
-drop-cut : (i : ℕ) (ls v : List ℕ) → drop i (cut ls v) ≡ cut (drop i ls) (drop (total (take i ls)) v)
-drop-cut zero ls v = refl
-drop-cut (suc i) [] v = refl
-drop-cut (suc i) (l ∷ ls) v = drop-cut i ls (drop l v) ∙ ap (cut (drop i ls)) (drop-drop (total (take i ls)) l v)
-
 module _ {w : List ℕ} {x : Extent} {i g o : ℕ} (k : Walk w x i g o) where
   length-at : i < x .count → getD (lengthsIn w x) i 0 ≡ pair (drop g w)
   length-at h =
       getD-first (lengthsIn w x) i 0 ∙ ap (λ v. getD v 0 0) (pairs-next w (x .lengths) (x .count) i g (pair (drop g w)) h (k .length-place) refl)
 
-  rest-drop : rest w x i o ≡ drop i (rowsIn w x)
-  rest-drop =
-      let l = lengthsIn w x in
-      let e : o ≡ x .rows + total (take i l) = omega (arith, k .row-place, ap total (take-append-drop i l), total-append (take i l) (drop i l)) in
-      sym (drop-cut i l (drop (x .rows) w) ∙ ap (cut (drop i l)) (drop-drop (total (take i l)) (x .rows) w ∙ ap (λ n. drop n w) (sym e)))
-
   row-at : i < x .count → getD (rowsIn w x) i [] ≡ piece w o (o + pair (drop g w))
-  row-at h = getD-first (rowsIn w x) i [] ∙ ap (λ v. getD v 0 []) (sym rest-drop ∙ rest-slice k (pair (drop g w)) h refl)
+  row-at h = getD-first (rowsIn w x) i [] ∙ ap (λ v. getD v 0 []) (sym (rest-drop k) ∙ rest-slice k (pair (drop g w)) h refl)
 
 -- the bytes of the row that is held at a place
 pub held-row : {w : List ℕ} {x : Extent} {p : Place} → PlaceIn w x p → p .present ≡ true → piece w (p .from) (p .end) ≡ getD (rowsIn w x) (p .row) []
@@ -56,18 +47,55 @@ held-row {w} {x} {p} q h =
     let e : p .end ≡ p .from + pair (drop (x .lengths + 2 * p .row) w) = q .end-is ∙ rw h (ap (λ l. p .from + l) (length-at k m)) in
     rw e (sym (row-at k m))
 
--- ---- the walk
+-- ---- rows that rise
+
+every-at : {A : Type 0} (p : A → Bool) (m : ℕ) (xs : List A) {y : A} {ys : List A} → drop m xs ≡ y ∷ ys → every p xs ≡ true → p y ≡ true
+every-at p zero xs e h = and-left (p _) _ (sym (ap (every p) e) ∙ h)
+every-at p (suc m) [] e h = cc
+every-at p (suc m) (x ∷ xs) e h = every-at p m xs e (and-right (p x) _ h)
+
+-- those in front of one that does not stand above the key stand before it
+module _ (key : List ℕ) {r : List ℕ} {others : List (List ℕ)} (a : before key (front key r) ≡ false) where
+  passed : (m : ℕ) (rs : List (List ℕ)) → Rising key rs → drop m rs ≡ r ∷ others
+      → (rowsBefore key rs ≡ m + rowsBefore key (r ∷ others)) × (isHeld key rs ≡ isHeld key (r ∷ others))
+  unfolding rowsBefore isHeld
+  passed zero rs u e = (ap (rowsBefore key) e ∙ omega arith, ap (isHeld key) e)
+  passed (suc m) [] u e = (cc, cc)
+  passed (suc m) (x ∷ rs) u e =
+      let b : before (front key x) key ≡ true =
+      is-true (before (front key x) key) (λ f. clash (every-at (λ s. before key (front key s)) m rs e (u .0 f)) a) in
+      let q = passed m rs (u .1) e in
+      (rw b (omega (arith, q .0)), rw b (q .1))
+
+-- ---- the search
 
 -- the place of row i, whose bytes lie from a to e
 abbrev pub place : ℕ → ℕ → ℕ → Bool → Place
 place i a e h = record { row = i; from = a; end = e; present = h }
 
+-- the rows in front of row i, which begins at o, stand before the key
 pub record Seeks (w : List ℕ) (x : Extent) (key : List ℕ) (i o : ℕ) : Type 0 where
-  pub rows-left : rowsBefore key (rowsIn w x) ≡ i + rowsBefore key (rest w x i o)
-  pub held-left : isHeld key (rowsIn w x) ≡ isHeld key (rest w x i o)
+  rows-left : rowsBefore key (rowsIn w x) ≡ i + rowsBefore key (rest w x i o)
+  held-left : isHeld key (rowsIn w x) ≡ isHeld key (rest w x i o)
 
-pub seeks-start : (w : List ℕ) (x : Extent) (key : List ℕ) → Seeks w x key 0 (x .rows)
-seeks-start w x key = record { rows-left = omega arith; held-left = refl }
+-- no row stands before the key or has it
+pub record Behind (key : List ℕ) (rs : List (List ℕ)) : Type 0 where
+  rows-none : rowsBefore key rs ≡ 0
+  held-none : isHeld key rs ≡ false
+
+-- the key's place is from lo to hi
+pub record Search (w : List ℕ) (x : Extent) (key : List ℕ) (lo hi o : ℕ) : Type 0 where
+  pub bisection : Bisection w x lo hi o
+  seeks : Seeks w x key lo o
+  behind : Behind key (drop hi (rowsIn w x))
+
+pub search-start : (w : List ℕ) (x : Extent) (key : List ℕ) → Search w x key 0 (x .count) (x .rows)
+unfolding rowsBefore isHeld
+search-start w x key = record {
+  bisection = bisection-start w x;
+  seeks = record { rows-left = omega arith; held-left = refl };
+  behind = record { rows-none = rw (none-left w x); held-none = rw (none-left w x) };
+}
 
 -- where no row that is left stands before the key
 module _ {w : List ℕ} {x : Extent} {key : List ℕ} {i g o : ℕ} (k : Walk w x i g o) (s : Seeks w x key i o) (z : rowsBefore key (rest w x i o) ≡ 0) where
@@ -75,62 +103,71 @@ module _ {w : List ℕ} {x : Extent} {key : List ℕ} {i g o : ℕ} (k : Walk w 
   ends h l e p = record { place-in = p; row-is = omega (arith, s .rows-left); present-is = sym (s .held-left ∙ e) }
 
   -- and none has it
-  pub seeks-none : isHeld key (rest w x i o) ≡ false → Sought w x key (place i o o false)
+  seeks-none : isHeld key (rest w x i o) ≡ false → Sought w x key (place i o o false)
   seeks-none e =
       rw (add-zero o) at (ends false 0 e (record { row-in = omega (arith, k .passed); from-is = k .row-place; end-is = refl }))
 
--- no row is left
-pub seeks-end : {w : List ℕ} {x : Extent} {key : List ℕ} {i g o : ℕ} → Walk w x i g o → Seeks w x key i o → x .count ≤ i → Sought w x key (place i o o false)
-unfolding rowsBefore isHeld
-seeks-end k s h = seeks-none k s (rw (rest-end k h)) (rw (rest-end k h))
+-- none is left to look at
+pub search-end : {w : List ℕ} {x : Extent} {key : List ℕ} {lo hi o : ℕ} → Search w x key lo hi o → hi ≤ lo → Sought w x key (place lo o o false)
+search-end {w} {x} {key} {lo} {hi} {o} k h =
+    let e : hi ≡ lo = omega (arith, k .bisection .ordered) in
+    let b : Behind key (rest w x lo o) = rw (rest-drop (k .bisection .walk), ← e) (k .behind) in
+    seeks-none (k .bisection .walk) (k .seeks) (b .rows-none) (b .held-none)
 
--- the next row, of length l, stands to the key as r says
-pub record Turn (w : List ℕ) (x : Extent) (key : List ℕ) (i g o l : ℕ) (r : Order) : Type 0 where
-  pub walk : Walk w x i g o
-  pub seeks : Seeks w x key i o
-  pub more : i < x .count
-  pub length-is : l ≡ pair (drop g w)
-  pub answer-is : r ≡ order (front key (piece w o (o + l))) key
-
-module _ {w : List ℕ} {x : Extent} {key : List ℕ} {i g o l : ℕ} {r : Order} (n : Turn w x key i g o l r) where
+-- the row at mid, found by the sum of the lengths up to it, and of length l, stands to the key as r says
+module _ {w : List ℕ} {x : Extent} {key : List ℕ} (s : Inside w x) (u : Rising key (rowsIn w x)) {lo hi o : ℕ} (k : Search w x key lo hi o) (mid : ℕ)
+    (p : lo ≤ mid) (q : mid < hi) {n : ℕ} (e : n ≡ total (pairs (mid - lo) (drop (x .lengths + 2 * lo) w))) {l : ℕ}
+    (f : l ≡ pair (drop (x .lengths + 2 * mid) w)) {r : Order} (d : r ≡ order (front key (piece w (o + n) (o + n + l))) key) where
   abbrev row : List ℕ
-  row = front key (piece w o (o + l))
+  row = front key (piece w (o + n) (o + n + l))
 
-  -- it stands before the key
-  module _ (b : before row key ≡ true) where
-    before-left : rowsBefore key (rest w x i o) ≡ 1 + rowsBefore key (rest w x (i + 1) (o + l))
-    unfolding rowsBefore
-    before-left = rw (rest-slice (n .walk) l (n .more) (n .length-is), b) (omega arith)
+  walk : Walk w x mid (x .lengths + 2 * mid) (o + n)
+  walk = middle s (k .bisection) mid p q e
 
-    held-left : isHeld key (rest w x i o) ≡ isHeld key (rest w x (i + 1) (o + l))
-    unfolding isHeld
-    held-left = rw (rest-slice (n .walk) l (n .more) (n .length-is), b)
+  more : mid < x .count
+  more = middle-more s (k .bisection) mid p q
 
-    pub seeks-on : Seeks w x key (i + 1) (o + l)
-    seeks-on = record { rows-left = omega (arith, n .seeks .rows-left, before-left); held-left = n .seeks .held-left ∙ held-left }
+  left : rest w x mid (o + n) ≡ piece w (o + n) (o + n + l) ∷ rest w x (mid + 1) (o + n + l)
+  left = rest-slice walk l more f
 
-  -- it does not
-  module _ (b : before row key ≡ false) where
-    before-none : rowsBefore key (rest w x i o) ≡ 0
-    unfolding rowsBefore
-    before-none = rw (rest-slice (n .walk) l (n .more) (n .length-is), b)
+  here : drop mid (rowsIn w x) ≡ piece w (o + n) (o + n + l) ∷ rest w x (mid + 1) (o + n + l)
+  here = sym (rest-drop walk) ∙ left
 
-    held-same : isHeld key (rest w x i o) ≡ same row key
-    unfolding isHeld
-    held-same = rw (rest-slice (n .walk) l (n .more) (n .length-is), b)
+  -- it does not stand above the key
+  module _ (a : before key row ≡ false) where
+    counts : (rowsBefore key (rowsIn w x) ≡ mid + rowsBefore key (piece w (o + n) (o + n + l) ∷ rest w x (mid + 1) (o + n + l)))
+        × (isHeld key (rowsIn w x) ≡ isHeld key (piece w (o + n) (o + n + l) ∷ rest w x (mid + 1) (o + n + l)))
+    counts = passed key a mid (rowsIn w x) u here
 
-  pub seeks-next : r ≡ Below → Seeks w x key (i + 1) (o + l)
-  seeks-next e = seeks-on (order-below row key (sym (n .answer-is) ∙ e))
+  pub search-up : r ≡ Below → Search w x key (mid + 1) hi (o + n + l)
+  unfolding rowsBefore isHeld
+  search-up z =
+      let b : before row key ≡ true = order-below row key (sym d ∙ z) in
+      let c = counts (before-asym row key b) in
+      record {
+        bisection = bisection-up s (k .bisection) mid p q e f;
+        seeks = record { rows-left = omega (arith, rw b at (c .0)); held-left = rw b at (c .1) };
+        behind = k .behind;
+      }
 
-  pub seeks-equal : r ≡ Equal → Sought w x key (place i o (o + l) true)
-  seeks-equal e =
-      let q : row ≡ key = order-equal row key (sym (n .answer-is) ∙ e) in
-      let b : before row key ≡ false = rw q (before-irrefl key) in
-      ends (n .walk) (n .seeks) (before-none b) true l (held-same b ∙ rw q (same-refl key))
-      (record { row-in = omega (arith, n .more); from-is = n .walk .row-place; end-is = omega (arith, length-at (n .walk) (n .more), n .length-is) })
+  pub search-equal : r ≡ Equal → Sought w x key (place mid (o + n) (o + n + l) true)
+  unfolding rowsBefore isHeld
+  search-equal z =
+      let y : row ≡ key = order-equal row key (sym d ∙ z) in
+      let c = counts (rw y (before-irrefl key)) in
+      let b : before row key ≡ false = rw y (before-irrefl key) in
+      let m : same row key ≡ true = rw y (same-refl key) in
+      ends walk (record { rows-left = rw left (c .0); held-left = rw left (c .1) }) (rw (left, b)) true l (rw (left, b) m)
+      (record { row-in = omega (arith, more); from-is = walk .row-place; end-is = omega (arith, length-at walk more, f) })
 
-  pub seeks-above : r ≡ Above → Sought w x key (place i o o false)
-  seeks-above e =
-      let a : before key row ≡ true = order-above row key (sym (n .answer-is) ∙ e) in
+  pub search-down : r ≡ Above → Search w x key lo mid o
+  unfolding rowsBefore isHeld
+  search-down z =
+      let a : before key row ≡ true = order-above row key (sym d ∙ z) in
       let b : before row key ≡ false = before-asym key row a in
-      seeks-none (n .walk) (n .seeks) (before-none b) (held-same b ∙ same-sym row key ∙ before-not-same key row a)
+      let m : same row key ≡ false = same-sym row key ∙ before-not-same key row a in
+      record {
+        bisection = bisection-down s (k .bisection) mid p q;
+        seeks = k .seeks;
+        behind = record { rows-none = rw (here, b); held-none = rw (here, b) m };
+      }

@@ -5,6 +5,7 @@ use mathlib.Core.List.{List, [], _∷_, _++_}
 use Prim.Native.Nat.{ℕ, suc, _+_, _-_, _*_, _≤_}
 use lib.Dec.{eqb}
 use lib.ListN.{length, take, drop, getD}
+use Rattle.numbers.specs.Lists.{every}
 use Rattle.numbers.specs.Order.{same, before}
 use Rattle.rows.specs.declared.Table.{Table}
 use Rattle.rows.specs.declared.Table.the-variants.{Context, Mapping, Access, View}
@@ -45,6 +46,11 @@ rowsBefore key (r ∷ rs) = cond (before (front key r) key) (suc (rowsBefore key
 unfoldable pub isHeld : List ℕ → List (List ℕ) → Bool
 isHeld key [] = false
 isHeld key (r ∷ rs) = cond (before (front key r) key) (isHeld key rs) (same (front key r) key)
+
+-- rows ascend, as a key sees them: behind one that does not stand before it, all stand above it
+abbrev pub Rising : List ℕ → List (List ℕ) → Type 0
+Rising key [] = Unit {0}
+Rising key (r ∷ rs) = (before (front key r) key ≡ false → every (λ s. before key (front key s)) rs ≡ true) × Rising key rs
 
 -- a place among the rows of an extent
 pub record PlaceIn (w : List ℕ) (x : Extent) (p : Place) : Type 0 where

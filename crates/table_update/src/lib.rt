@@ -5,8 +5,8 @@ use octets::Order;
 use rows::Table;
 ghost use mathlib.Core.Path.{_≡_};
 ghost use Rattle.octets.specs.Order.{order};
-ghost use Rattle.image_layout.specs.Layout.{Inside, extentOf};
-ghost use Rattle.table_update.specs.Exchange.{front, Sought, TablePlace, RoomFor, Exchanges, oneRow, oneIf, position};
+ghost use Rattle.image_layout.specs.Layout.{Inside, extentOf, rowsIn};
+ghost use Rattle.table_update.specs.Exchange.{front, Rising, Sought, TablePlace, RoomFor, Exchanges, oneRow, oneIf, position};
 
 // The place of a key in a table: which row it is or would be, where that row's bytes lie, and whether it is held.
 pub struct Place {
@@ -39,44 +39,43 @@ fn against(row: &[u8], key: &[u8]) -> Order
     octets::compare(&row[0..n], key)
 }
 
-// The place of a key among the rows of a table.
+// The place of a key among the rows of a table, by bisection.
 pub fn seek(w: &[u8], x: Extent, key: &[u8]) -> Place
-    requires { ⌜ Inside (now w) x ⌝ }
+    requires inside { ⌜ Inside (now w) x ⌝ }
+    requires rising { ⌜ Rising (now key) (rowsIn (now w) x) ⌝ }
     ensures { λ r. ⌜ Sought (now (w .entry)) x (now (key .entry)) r ⌝ }
 {
     let n = x.count;
-    let mut i = 0;
-    let mut g = x.lengths;
+    let g = x.lengths;
+    let mut lo = 0;
+    let mut hi = n;
     let mut o = x.rows;
-    while i < n {
-        let e = o + image_layout::pair_at(w, g);
-        let order = against(&w[o..e], key);
+    // rows before `lo`, which lies at `o`, stand before the key, and rows from `hi` on above it
+    while lo < hi {
+        let mid = lo + (hi - lo) / 2;
+        let at = o + image_layout::sum(w, g + 2 * lo, mid - lo);
+        let end = at + image_layout::pair_at(w, g + 2 * mid);
+        let order = against(&w[at..end], key);
         match order {
             Order::Below => {
-                g += 2;
-                o = e;
-                i += 1;
+                lo = mid + 1;
+                o = end;
             }
             Order::Equal => {
                 return Place {
-                    row: i,
-                    from: o,
-                    end: e,
+                    row: mid,
+                    from: at,
+                    end,
                     present: true,
                 };
             }
             Order::Above => {
-                return Place {
-                    row: i,
-                    from: o,
-                    end: o,
-                    present: false,
-                };
+                hi = mid;
             }
         }
     }
     Place {
-        row: i,
+        row: lo,
         from: o,
         end: o,
         present: false,

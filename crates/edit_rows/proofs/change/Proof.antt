@@ -14,7 +14,7 @@ use Rattle.table_update.specs.Exchange.{Sought}
 use Rattle.table_update.proofs.Stores.{rowKey}
 use Rattle.edit_rules.specs.declared.Edited.the-variants.{Done}
 use Rattle.edit_rules.specs.Storage.{storageIn, storageAt, placeFault, placed, fullAt}
-use Rattle.edit_rows.proofs.Stores.{inside-laid, views-laid, sought-laid, faulty-done, not-done, placed-judged, placed-full, placed-room, key-within}
+use Rattle.edit_rows.proofs.Stores.{inside-laid, rising-laid, views-laid, sought-laid, faulty-done, not-done, placed-judged, placed-full, placed-room, key-within}
 use Rattle.edit_rows.proofs.Stores.{taken-within, storage-known, change-refused, change-asked, change-done}
 use Rattle.edit_rows.proofs.change.Statement.{statement}
 use Rattle.edit_rows.proofs.change.Tie as tie
@@ -79,7 +79,13 @@ part-seek-end c =
 
 seek-requires : tie.Need-seek-requires
 seek-requires c κs =
-    let x = c .before .before in let s = start x in inside-laid (s .pre .0 .sound) (s .pre .0 .laid) (s .args .t) (x .extent-of .ensures)
+    let x = c .before .before in
+    let s = start x in
+    let a = s .args in (
+      inside-laid (s .pre .0 .sound) (s .pre .0 .laid) (a .t) (x .extent-of .ensures),
+      rising-laid (a .c) (a .t) (a .w .now) (a .bytes .now) (s .pre .0 .sound) (store-bytes x) (handed-bytes x) (s .pre .1 .whole) (s .pre .0 .laid)
+          (x .extent-of .ensures) (s .pre .1 .key-is),
+    )
 
 judge-place-requires : tie.Need-judge-place-requires
 judge-place-requires c κs =

@@ -6,7 +6,8 @@ use native.Mathlib.Omega.{arith}
 use lib.ListN.{length}
 use borrow.Author.Needs.{needs}
 use Rattle.image_layout.specs.Layout.{extent}
-use Rattle.walk_seek.proofs.Seeks.{Seek, seek-start, seek-down, seek-up, seek-end, middle-lengths, middle-start, middle-length, middle-end, middle-whole}
+use Rattle.image_layout.proofs.Bisections.{lo-length, middle-lengths, middle-start, middle-length, middle-end}
+use Rattle.walk_seek.proofs.Seeks.{Seek, seek-start, seek-down, seek-up, seek-end, middle-whole}
 use Rattle.walk_seek.proofs.rows_above.Statement.{statement}
 use Rattle.walk_seek.proofs.rows_above.Tie as tie
 
@@ -36,7 +37,7 @@ inner r = r .before .before .before .before
 
 -- the length of the row at lo
 lengths-in : (l : tie.At-loop Inv-loop μ-loop) → let a = start l .args in a .x .lengths + 2 * l .loop .lo ≤ length (a .w .now)
-lengths-in l = omega (arith, l .loop .inv .ordered, l .loop .inv .within, start l .pre .inside .lengths-in)
+lengths-in l = lo-length (start l .pre .inside) (l .loop .inv .bisection)
 
 -- ---- the needs
 
@@ -46,28 +47,28 @@ loop-holds c = seek-start (c .before .before .pre) _
 sum-requires : tie.Need-sum-requires Inv-loop μ-loop
 sum-requires c κs =
     let l = c .before in (
-      middle-lengths (start l .pre) _ (l .loop .inv) (mid c) (low c) (high c),
-      omega (arith, middle-start (start l .pre) _ (l .loop .inv) (mid c) (low c) (high c) refl),
+      middle-lengths (start l .pre .inside) (l .loop .inv .bisection) (mid c) (low c) (high c),
+      omega (arith, middle-start (start l .pre .inside) (l .loop .inv .bisection) (mid c) (low c) (high c) refl),
     )
 
 at-in : (c : tie.After-sum Inv-loop μ-loop) → let l = c .before .before in l .loop .o + c .sum .result ≤ length (start l .args .w .now)
 at-in c =
     let i = c .before in
     let l = i .before in
-    middle-start (start l .pre) _ (l .loop .inv) (mid i) (low i) (high i) (c .sum .ensures)
+    middle-start (start l .pre .inside) (l .loop .inv .bisection) (mid i) (low i) (high i) (c .sum .ensures)
 
 length-in : (c : tie.After-sum Inv-loop μ-loop) → let a = start (c .before .before) .args in a .x .lengths + 2 * mid (c .before) + 2 ≤ length (a .w .now)
 length-in c =
     let i = c .before in
     let l = i .before in
-    middle-length (start l .pre) _ (l .loop .inv) (mid i) (low i) (high i) (c .sum .ensures)
+    middle-length (start l .pre .inside) (l .loop .inv .bisection) (mid i) (low i) (high i) (c .sum .ensures)
 
 end-in : (c : tie.After-pair-at Inv-loop μ-loop) → let l = c .before .before .before in
     l .loop .o + c .before .sum .result + c .pair-at .result ≤ length (start l .args .w .now)
 end-in c =
     let i = c .before .before in
     let l = i .before in
-    middle-end (start l .pre) _ (l .loop .inv) (mid i) (low i) (high i) (c .before .sum .ensures) (c .pair-at .ensures .0)
+    middle-end (start l .pre .inside) (l .loop .inv .bisection) (mid i) (low i) (high i) (c .before .sum .ensures) (c .pair-at .ensures .0)
 
 is-row-above-requires : tie.Need-is-row-above-requires Inv-loop μ-loop
 is-row-above-requires c κs =
@@ -98,9 +99,9 @@ returns c = seek-end (start (c .before) .pre) _ (c .before .loop .inv) (c .loop-
 pub rows-above-spec : {M : Type 1} → statement M
 rows-above-spec =
     tie.close
-    (tie.spec Inv-loop μ-loop loop-holds (λ c. c .before .loop .inv .ordered) (λ c. omega (arith, high c)) (λ c. omega (arith, lengths-in (c .before)))
+    (tie.spec Inv-loop μ-loop loop-holds (λ c. c .before .loop .inv .bisection .ordered) (λ c. omega (arith, high c)) (λ c. omega (arith, lengths-in (c .before)))
     (λ c. omega (arith, lengths-in (c .before))) (λ c. search needs) sum-requires (λ c. omega (arith, at-in c)) (λ c. omega (arith, length-in c))
     (λ c. omega (arith, length-in c)) (λ c κs. length-in c) (λ c. omega (arith, end-in c)) (λ c. search needs) (λ c. search needs) end-in
     is-row-above-requires (λ c. omega (arith, high (inner (c .before)))) loop-again (λ c. omega (arith, high (inner (c .before))))
     (λ c. omega (arith, high (inner (c .before)))) loop-again-2 (λ c. omega (arith, lengths-in (c .before))) (λ c. omega (arith, lengths-in (c .before)))
-    (λ c. omega (arith, c .before .loop .inv .ordered, c .before .loop .inv .within)) returns)
+    (λ c. omega (arith, c .before .loop .inv .bisection .ordered, c .before .loop .inv .bisection .within)) returns)
