@@ -1,9 +1,9 @@
 -- The columns that an edit writes: there is a first, and each is listed. With a column of an instance exchanged it is the instance of the other.
 -- Judged in the view that steps 1 to 4 come to, or denied by them, the columns are judged by the tables. Assumes nothing.
-use mathlib.Core.Path.{_≡_, refl, sym, ap, _∙_}
+use mathlib.Core.Path.{_≡_, refl, ap, _∙_}
 use mathlib.Core.Bool.{true}
-use mathlib.Core.List.{List, [], _∷_, _++_}
-use Prim.Native.Nat.{ℕ, zero, suc, _+_, _≤_, _<_}
+use mathlib.Core.List.{List, [], _∷_}
+use Prim.Native.Nat.{ℕ, zero, suc, _≤_, _<_}
 use native.Mathlib.Omega.{arith}
 use lib.ListN.{length, set, length-append}
 use lib.Seq.{set-append-seam}
@@ -24,7 +24,7 @@ use Rattle.decision_parts.specs.declared.NamedView.{NamedView}
 use Rattle.decision_parts.specs.declared.Standing.the-variants.{Denied, Viewed}
 use Rattle.decision_parts.specs.Parts.{Authorizes, rowsOf}
 use Rattle.decision_parts.proofs.Decisions.{denied-decision, viewed-decision}
-use Rattle.instance_encode.specs.Instances.{base, columns, counted, lists, instance, statusColumn}
+use Rattle.instance_encode.specs.Instances.{base, counted, lists, instance, statusColumn}
 use Rattle.instance_encode.proofs.Encoded.{columns-listed}
 use Rattle.edit_rules.specs.Edits.{Caller, columnsWritten, firstRefusal, judgementAt}
 use Rattle.edit_rules.proofs.Refusals.{written-begin, refusals-same, all-refused}

@@ -1,5 +1,6 @@
 pub mod Examples
 pub mod Refusals
+pub mod Written
 pub mod Storages
 pub mod Outcomes
 pub mod Keys

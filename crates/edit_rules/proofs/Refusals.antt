@@ -1,5 +1,5 @@
 -- The first refusal over columns: the same where each column is judged the same, and the one cause where each is refused for it. Assumes nothing.
-use mathlib.Core.Path.{_≡_, refl, sym, ap₂, _∙_}
+use mathlib.Core.Path.{_≡_, refl, ap₂}
 use mathlib.Core.List.{List, [], _∷_}
 use Prim.Native.Nat.{ℕ}
 use Rattle.answers.specs.declared.Cause.{Cause}

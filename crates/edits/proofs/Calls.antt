@@ -13,7 +13,7 @@ use Rattle.answers.specs.declared.Decision.the-variants.{Allowed, Refused}
 use Rattle.answers.specs.declared.Fault.{Fault}
 use Rattle.answers.specs.declared.Fault.the-variants.{NotSound, OutOfRange, ContextTable}
 use Rattle.numbers.specs.Lists.{isNone}
-use Rattle.numbers.proofs.Bools.{split, cond-true, cond-false, and-false-left, and-false-right}
+use Rattle.numbers.proofs.Bools.{split, cond-false, and-false-left, and-false-right}
 use Rattle.rows.specs.declared.Table.{Table}
 use Rattle.rows.specs.Fields.{faults, span}
 use Rattle.rows.specs.Rows.{keyFields}

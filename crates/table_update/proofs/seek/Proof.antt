@@ -1,6 +1,6 @@
 -- `table_update::seek` meets its contract. The loop's invariant is the search's (`Seeks`), its measure how many rows lie between the two ends. How the row
 -- in the middle stands to the key takes one of them there, or ends the search. Assumes nothing.
-use mathlib.Core.Path.{_≡_, refl}
+use mathlib.Core.Path.{refl}
 use Prim.Native.Nat.{ℕ, _+_, _-_, _*_, _/_, _≤_, _<_}
 use native.Mathlib.Omega.{arith}
 use lib.ListN.{length}

@@ -1,7 +1,7 @@
 -- `walk_find::in_columns` meets its contract. The loop's invariant: the first instance in the columns that are left is the first of the table, and they are
 -- listed. A row found in the next column is the first; where there is none, the others are left. The measure is how many columns are left.
 -- Assumes nothing.
-use mathlib.Core.Path.{_≡_, refl, sym, ap, ap₂, _∙_}
+use mathlib.Core.Path.{_≡_, refl, sym, ap, _∙_}
 use mathlib.Core.Bool.{true}
 use mathlib.Core.List.{List, _∷_, map}
 use mathlib.Core.Option.{some}
