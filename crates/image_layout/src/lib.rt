@@ -1,8 +1,9 @@
 // Where the rows of a table image lie: the header, the rows' lengths of two bytes each, and the rows.
 ghost use mathlib.Core.Path.{_≡_};
-ghost use Prim.Native.Nat.{_+_, _*_, _≤_};
+ghost use Prim.Native.Nat.{_+_, _*_, _≤_, _<_};
 ghost use lib.ListN.{length, drop};
 ghost use Rattle.image_layout.specs.Layout.{pair, pairs, total, extent, endOf, Inside, header, mostRows, mostPair, longestSlice};
+ghost use Rattle.image_layout.specs.Bisection.{Between, RowBetween};
 
 // How many bytes stand ahead of the rows' lengths: the four counts.
 pub const HEADER: usize = 8;
@@ -68,4 +69,27 @@ pub fn following(x: Extent, end: usize, n: usize) -> Extent
         rows: end,
         count: n,
     }
+}
+
+// ---- a bisection over rows
+
+// A row, and where it lies.
+pub struct Middle {
+    pub row: usize,
+    pub from: usize,
+    pub end: usize,
+}
+
+// The row in the middle of those from row `lo`, which begins at `o`, up to row `hi`.
+pub fn middle_row(w: &[u8], x: Extent, lo: usize, hi: usize, o: usize) -> Middle
+    requires inside { ⌜ Inside (now w) x ⌝ }
+    requires rows { ⌜ Between (now w) x lo hi o ⌝ }
+    requires some { ⌜ lo < hi ⌝ }
+    ensures { λ r. ⌜ RowBetween (now (w .entry)) x lo hi r ⌝ }
+{
+    let g = x.lengths;
+    let row = lo + (hi - lo) / 2;
+    let from = o + sum(w, g + 2 * lo, row - lo);
+    let end = from + pair_at(w, g + 2 * row);
+    Middle { row, from, end }
 }

@@ -4,7 +4,7 @@
 use mathlib.Core.Path.{_≡_, refl, sym, ap, _∙_}
 use mathlib.Core.Bool.{Bool, true, false}
 use mathlib.Core.List.{List, [], _∷_}
-use Prim.Native.Nat.{ℕ, zero, suc, _+_, _-_, _*_, _≤_, _<_}
+use Prim.Native.Nat.{ℕ, zero, suc, _+_, _*_, _≤_, _<_}
 use native.Mathlib.Nat.{add-zero}
 use native.Mathlib.Omega.{arith}
 use lib.ListN.{drop, getD}
@@ -18,9 +18,11 @@ use Rattle.octets.specs.declared.Order.the-variants.{Below, Equal, Above}
 use Rattle.octets.specs.Order.{order}
 use Rattle.octets.proofs.Orders.{order-below, order-equal, order-above}
 use Rattle.image_layout.specs.declared.Extent.{Extent}
-use Rattle.image_layout.specs.Layout.{pair, pairs, total, lengthsIn, rowsIn, Inside}
-use Rattle.image_layout.proofs.Walks.{piece, rest, Walk, pairs-next, rest-slice, rest-drop, none-left}
-use Rattle.image_layout.proofs.Bisections.{Bisection, bisection-start, bisection-up, bisection-down, middle, middle-more}
+use Rattle.image_layout.specs.declared.Middle.{Middle}
+use Rattle.image_layout.specs.Bisection.{Between, RowBetween}
+use Rattle.image_layout.specs.Layout.{pair, lengthsIn, rowsIn}
+use Rattle.image_layout.proofs.Walks.{piece, Walk, pairs-next, rest-slice, rest-drop, none-left}
+use Rattle.image_layout.proofs.Bisections.{between-start, between-up, between-down, row-inside, row-walk, rows-from}
 use Rattle.table_update.specs.declared.Place.{Place}
 use Rattle.table_update.specs.Exchange.{oneIf, front, rowsBefore, isHeld, Rising, PlaceIn, Sought}
 
@@ -73,10 +75,10 @@ module _ (key : List ℕ) {r : List ℕ} {others : List (List ℕ)} (a : before 
 abbrev pub place : ℕ → ℕ → ℕ → Bool → Place
 place i a e h = record { row = i; from = a; end = e; present = h }
 
--- the rows in front of row i, which begins at o, stand before the key
-pub record Seeks (w : List ℕ) (x : Extent) (key : List ℕ) (i o : ℕ) : Type 0 where
-  rows-left : rowsBefore key (rowsIn w x) ≡ i + rowsBefore key (rest w x i o)
-  held-left : isHeld key (rowsIn w x) ≡ isHeld key (rest w x i o)
+-- the rows in front of row i stand before the key
+pub record Seeks (key : List ℕ) (rs : List (List ℕ)) (i : ℕ) : Type 0 where
+  rows-left : rowsBefore key rs ≡ i + rowsBefore key (drop i rs)
+  held-left : isHeld key rs ≡ isHeld key (drop i rs)
 
 -- no row stands before the key or has it
 pub record Behind (key : List ℕ) (rs : List (List ℕ)) : Type 0 where
@@ -85,89 +87,80 @@ pub record Behind (key : List ℕ) (rs : List (List ℕ)) : Type 0 where
 
 -- the key's place is from lo to hi
 pub record Search (w : List ℕ) (x : Extent) (key : List ℕ) (lo hi o : ℕ) : Type 0 where
-  pub bisection : Bisection w x lo hi o
-  seeks : Seeks w x key lo o
+  pub between : Between w x lo hi o
+  seeks : Seeks key (rowsIn w x) lo
   behind : Behind key (drop hi (rowsIn w x))
 
 pub search-start : (w : List ℕ) (x : Extent) (key : List ℕ) → Search w x key 0 (x .count) (x .rows)
 unfolding rowsBefore isHeld
 search-start w x key = record {
-  bisection = bisection-start w x;
+  between = between-start w x;
   seeks = record { rows-left = omega arith; held-left = refl };
   behind = record { rows-none = rw (none-left w x); held-none = rw (none-left w x) };
 }
 
--- where no row that is left stands before the key
-module _ {w : List ℕ} {x : Extent} {key : List ℕ} {i g o : ℕ} (k : Walk w x i g o) (s : Seeks w x key i o) (z : rowsBefore key (rest w x i o) ≡ 0) where
-  ends : (h : Bool) (l : ℕ) → isHeld key (rest w x i o) ≡ h → PlaceIn w x (place i o (o + l) h) → Sought w x key (place i o (o + l) h)
-  ends h l e p = record { place-in = p; row-is = omega (arith, s .rows-left); present-is = sym (s .held-left ∙ e) }
-
-  -- and none has it
-  seeks-none : isHeld key (rest w x i o) ≡ false → Sought w x key (place i o o false)
-  seeks-none e =
-      rw (add-zero o) at (ends false 0 e (record { row-in = omega (arith, k .passed); from-is = k .row-place; end-is = refl }))
-
 -- none is left to look at
 pub search-end : {w : List ℕ} {x : Extent} {key : List ℕ} {lo hi o : ℕ} → Search w x key lo hi o → hi ≤ lo → Sought w x key (place lo o o false)
 search-end {w} {x} {key} {lo} {hi} {o} k h =
-    let e : hi ≡ lo = omega (arith, k .bisection .ordered) in
-    let b : Behind key (rest w x lo o) = rw (rest-drop (k .bisection .walk), ← e) (k .behind) in
-    seeks-none (k .bisection .walk) (k .seeks) (b .rows-none) (b .held-none)
+    let e : hi ≡ lo = omega (arith, k .between .ordered) in
+    let b : Behind key (drop lo (rowsIn w x)) = rw e at (k .behind) in
+    record {
+      place-in = record { row-in = omega (arith, k .between .within); from-is = k .between .place; end-is = sym (add-zero o) };
+      row-is = omega (arith, k .seeks .rows-left, b .rows-none);
+      present-is = sym (k .seeks .held-left ∙ b .held-none);
+    }
 
--- the row at mid, found by the sum of the lengths up to it, and of length l, stands to the key as r says
-module _ {w : List ℕ} {x : Extent} {key : List ℕ} (s : Inside w x) (u : Rising key (rowsIn w x)) {lo hi o : ℕ} (k : Search w x key lo hi o) (mid : ℕ)
-    (p : lo ≤ mid) (q : mid < hi) {n : ℕ} (e : n ≡ total (pairs (mid - lo) (drop (x .lengths + 2 * lo) w))) {l : ℕ}
-    (f : l ≡ pair (drop (x .lengths + 2 * mid) w)) {r : Order} (d : r ≡ order (front key (piece w (o + n) (o + n + l))) key) where
+-- the row in the middle stands to the key as d says
+module _ {w : List ℕ} {x : Extent} {key : List ℕ} (u : Rising key (rowsIn w x)) {lo hi o : ℕ} (k : Search w x key lo hi o) {r : Middle}
+    (m : RowBetween w x lo hi r) {d : Order} (e : d ≡ order (front key (piece w (r .from) (r .end))) key) where
   abbrev row : List ℕ
-  row = front key (piece w (o + n) (o + n + l))
+  row = front key (piece w (r .from) (r .end))
 
-  walk : Walk w x mid (x .lengths + 2 * mid) (o + n)
-  walk = middle s (k .bisection) mid p q e
-
-  more : mid < x .count
-  more = middle-more s (k .bisection) mid p q
-
-  left : rest w x mid (o + n) ≡ piece w (o + n) (o + n + l) ∷ rest w x (mid + 1) (o + n + l)
-  left = rest-slice walk l more f
-
-  here : drop mid (rowsIn w x) ≡ piece w (o + n) (o + n + l) ∷ rest w x (mid + 1) (o + n + l)
-  here = sym (rest-drop walk) ∙ left
+  here : drop (r .row) (rowsIn w x) ≡ piece w (r .from) (r .end) ∷ drop (r .row + 1) (rowsIn w x)
+  here = rows-from (k .between) m
 
   -- it does not stand above the key
-  module _ (a : before key row ≡ false) where
-    counts : (rowsBefore key (rowsIn w x) ≡ mid + rowsBefore key (piece w (o + n) (o + n + l) ∷ rest w x (mid + 1) (o + n + l)))
-        × (isHeld key (rowsIn w x) ≡ isHeld key (piece w (o + n) (o + n + l) ∷ rest w x (mid + 1) (o + n + l)))
-    counts = passed key a mid (rowsIn w x) u here
+  at-row : before key row ≡ false
+      → (rowsBefore key (rowsIn w x) ≡ r .row + rowsBefore key (piece w (r .from) (r .end) ∷ drop (r .row + 1) (rowsIn w x)))
+      × (isHeld key (rowsIn w x) ≡ isHeld key (piece w (r .from) (r .end) ∷ drop (r .row + 1) (rowsIn w x)))
+  at-row a = passed key a (r .row) (rowsIn w x) u here
 
-  pub search-up : r ≡ Below → Search w x key (mid + 1) hi (o + n + l)
+  pub search-up : d ≡ Below → Search w x key (r .row + 1) hi (r .end)
   unfolding rowsBefore isHeld
   search-up z =
-      let b : before row key ≡ true = order-below row key (sym d ∙ z) in
-      let c = counts (before-asym row key b) in
+      let b : before row key ≡ true = order-below row key (sym e ∙ z) in
+      let c = at-row (before-asym row key b) in
       record {
-        bisection = bisection-up s (k .bisection) mid p q e f;
+        between = between-up (k .between) m;
         seeks = record { rows-left = omega (arith, rw b at (c .0)); held-left = rw b at (c .1) };
         behind = k .behind;
       }
 
-  pub search-equal : r ≡ Equal → Sought w x key (place mid (o + n) (o + n + l) true)
+  pub search-equal : d ≡ Equal → Sought w x key (place (r .row) (r .from) (r .end) true)
   unfolding rowsBefore isHeld
   search-equal z =
-      let y : row ≡ key = order-equal row key (sym d ∙ z) in
-      let c = counts (rw y (before-irrefl key)) in
+      let y : row ≡ key = order-equal row key (sym e ∙ z) in
       let b : before row key ≡ false = rw y (before-irrefl key) in
-      let m : same row key ≡ true = rw y (same-refl key) in
-      ends walk (record { rows-left = rw left (c .0); held-left = rw left (c .1) }) (rw (left, b)) true l (rw (left, b) m)
-      (record { row-in = omega (arith, more); from-is = walk .row-place; end-is = omega (arith, length-at walk more, f) })
+      let c = at-row (rw y (before-irrefl key)) in
+      let h = row-inside (k .between) m in
+      record {
+        place-in = record {
+          row-in = omega (arith, h);
+          from-is = m .place;
+          end-is = m .end-is ∙ ap (λ l. r .from + l) (sym (length-at (row-walk (k .between) m) h));
+        };
+        row-is = omega (arith, rw b at (c .0));
+        present-is = sym (rw b at (c .1) ∙ rw y (same-refl key));
+      }
 
-  pub search-down : r ≡ Above → Search w x key lo mid o
+  pub search-down : d ≡ Above → Search w x key lo (r .row) o
   unfolding rowsBefore isHeld
   search-down z =
-      let a : before key row ≡ true = order-above row key (sym d ∙ z) in
+      let a : before key row ≡ true = order-above row key (sym e ∙ z) in
       let b : before row key ≡ false = before-asym key row a in
-      let m : same row key ≡ false = same-sym row key ∙ before-not-same key row a in
+      let n : same row key ≡ false = same-sym row key ∙ before-not-same key row a in
       record {
-        bisection = bisection-down s (k .bisection) mid p q;
+        between = between-down (k .between) m;
         seeks = k .seeks;
-        behind = record { rows-none = rw (here, b); held-none = rw (here, b) m };
+        behind = record { rows-none = rw (here, b); held-none = rw (here, b) n };
       }

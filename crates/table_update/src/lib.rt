@@ -45,32 +45,31 @@ pub fn seek(w: &[u8], x: Extent, key: &[u8]) -> Place
     requires rising { ⌜ Rising (now key) (rowsIn (now w) x) ⌝ }
     ensures { λ r. ⌜ Sought (now (w .entry)) x (now (key .entry)) r ⌝ }
 {
-    let n = x.count;
-    let g = x.lengths;
     let mut lo = 0;
-    let mut hi = n;
+    let mut hi = x.count;
     let mut o = x.rows;
     // rows before `lo`, which lies at `o`, stand before the key, and rows from `hi` on above it
     while lo < hi {
-        let mid = lo + (hi - lo) / 2;
-        let at = o + image_layout::sum(w, g + 2 * lo, mid - lo);
-        let end = at + image_layout::pair_at(w, g + 2 * mid);
-        let order = against(&w[at..end], key);
+        let m = image_layout::middle_row(w, x, lo, hi, o);
+        let row = m.row;
+        let from = m.from;
+        let end = m.end;
+        let order = against(&w[from..end], key);
         match order {
             Order::Below => {
-                lo = mid + 1;
+                lo = row + 1;
                 o = end;
             }
             Order::Equal => {
                 return Place {
-                    row: mid,
-                    from: at,
+                    row,
+                    from,
                     end,
                     present: true,
                 };
             }
             Order::Above => {
-                hi = mid;
+                hi = row;
             }
         }
     }

@@ -2,7 +2,7 @@
 use mathlib.Core.Path.{_≡_, refl, sym, ap, _∙_}
 use mathlib.Core.Bool.{Bool, true, false}
 use mathlib.Core.List.{List, [], _∷_, map}
-use Prim.Native.Nat.{ℕ, zero, suc, _+_, _-_, _*_, _≤_, _<_}
+use Prim.Native.Nat.{ℕ, zero, suc, _+_, _-_, _*_, _≤_}
 use native.Mathlib.Omega.{arith}
 use lib.ListN.{drop}
 use lib.Seq.{drop-drop}
@@ -13,9 +13,11 @@ use Rattle.numbers.proofs.Greatest.{Ascends}
 use Rattle.rows.specs.declared.Table.{Table}
 use Rattle.rows.specs.Rows.{indexOf}
 use Rattle.image_layout.specs.declared.Extent.{Extent}
-use Rattle.image_layout.specs.Layout.{pair, pairs, total, cut, extent, lengthsIn, rowsIn, Inside}
-use Rattle.image_layout.proofs.Walks.{piece, rest, Walk, rest-slice, rest-drop, none-left}
-use Rattle.image_layout.proofs.Bisections.{Bisection, bisection-start, bisection-up, bisection-down, middle, middle-more}
+use Rattle.image_layout.specs.declared.Middle.{Middle}
+use Rattle.image_layout.specs.Bisection.{Between, RowBetween}
+use Rattle.image_layout.specs.Layout.{pairs, total, cut, extent, lengthsIn, rowsIn, Inside}
+use Rattle.image_layout.proofs.Walks.{piece, Walk, rest-drop, none-left}
+use Rattle.image_layout.proofs.Bisections.{between-start, between-walk, between-up, between-down, rows-from}
 use Rattle.image_judge.specs.Faults.{tableFault, SoundTable}
 use Rattle.image_judge.proofs.Sound.{whole-first, ascends-rows}
 use Rattle.decision_steps.specs.Bytes.{Whole}
@@ -35,9 +37,9 @@ pairs-drop (suc i) (suc n) m v h =
 -- ---- the bisection
 
 pub record Seek (t : Table) (w : List ℕ) (x : Extent) (parts : List ℕ) (lo hi o : ℕ) : Type 0 where
-  pub bisection : Bisection w x lo hi o
-  pub from-lo : keep (λ r. before parts (indexOf t r)) (rowsIn w x) ≡ keep (λ r. before parts (indexOf t r)) (drop lo (rowsIn w x))
-  pub from-hi : every (λ r. before parts (indexOf t r)) (drop hi (rowsIn w x)) ≡ true
+  pub between : Between w x lo hi o
+  from-lo : keep (λ r. before parts (indexOf t r)) (rowsIn w x) ≡ keep (λ r. before parts (indexOf t r)) (drop lo (rowsIn w x))
+  from-hi : every (λ r. before parts (indexOf t r)) (drop hi (rowsIn w x)) ≡ true
 
 module _ {t : Table} {w : List ℕ} {x : Extent} (s : SoundTable t w x) (parts : List ℕ) where
   abbrev above : List ℕ → Bool
@@ -50,50 +52,44 @@ module _ {t : Table} {w : List ℕ} {x : Extent} (s : SoundTable t w x) (parts :
   ascends = ascends-rows t [] rows (s .rows-sound)
 
   pub seek-start : Seek t w x parts 0 (x .count) (x .rows)
-  seek-start = record { bisection = bisection-start w x; from-lo = refl; from-hi = ap (every above) (none-left w x) }
+  seek-start = record { between = between-start w x; from-lo = refl; from-hi = ap (every above) (none-left w x) }
 
   module _ {lo hi o : ℕ} (k : Seek t w x parts lo hi o) where
-    -- the row at mid, found by the sum of the lengths up to it, and of length l
-    module _ (mid : ℕ) (p : lo ≤ mid) (q : mid < hi) {n : ℕ} (e : n ≡ total (pairs (mid - lo) (drop (x .lengths + 2 * lo) w))) {l : ℕ}
-        (f : l ≡ pair (drop (x .lengths + 2 * mid) w)) where
+    -- the row in the middle
+    module _ {r : Middle} (m : RowBetween w x lo hi r) where
       abbrev row : List ℕ
-      row = piece w (o + n) (o + n + l)
+      row = piece w (r .from) (r .end)
 
-      here : Walk w x mid (x .lengths + 2 * mid) (o + n)
-      here = middle (s .inside) (k .bisection) mid p q e
-
-      drops : drop mid rows ≡ row ∷ rest w x (mid + 1) (o + n + l)
-      drops = sym (rest-drop here) ∙ rest-slice here l (middle-more (s .inside) (k .bisection) mid p q) f
+      drops : drop (r .row) rows ≡ row ∷ drop (r .row + 1) rows
+      drops = rows-from (k .between) m
 
       pub middle-whole : Whole t row
       middle-whole =
-          whole-first t [] row (rest w x (mid + 1) (o + n + l)) (sym (ap (tableFault t []) drops) ∙ sound-drop t mid [] rows (s .rows-sound))
+          whole-first t [] row (drop (r .row + 1) rows) (sym (ap (tableFault t []) drops) ∙ sound-drop t (r .row) [] rows (s .rows-sound))
 
       test : {b : Bool} → before parts (rowIndex t (rowOf t row)) ≡ b → above row ≡ b
       test h = sym (ap (before parts) (row-index t row)) ∙ h
 
-      pub seek-down : before parts (rowIndex t (rowOf t row)) ≡ true → Seek t w x parts lo mid o
+      pub seek-down : before parts (rowIndex t (rowOf t row)) ≡ true → Seek t w x parts lo (r .row) o
       seek-down h = record {
-        bisection = bisection-down (s .inside) (k .bisection) mid p q;
+        between = between-down (k .between) m;
         from-lo = k .from-lo;
-        from-hi = above-from (indexOf t) parts mid rows ascends drops (test h);
+        from-hi = above-from (indexOf t) parts (r .row) rows ascends drops (test h);
       }
 
-      pub seek-up : before parts (rowIndex t (rowOf t row)) ≡ false → Seek t w x parts (mid + 1) hi (o + n + l)
-      seek-up h =
-          let b = bisection-up (s .inside) (k .bisection) mid p q e f in
-          record {
-            bisection = b;
-            from-lo = above-behind (indexOf t) parts mid rows ascends drops (test h) ∙ ap (keep above) (rest-drop (b .walk));
-            from-hi = k .from-hi;
-          }
+      pub seek-up : before parts (rowIndex t (rowOf t row)) ≡ false → Seek t w x parts (r .row + 1) hi (r .end)
+      seek-up h = record {
+        between = between-up (k .between) m;
+        from-lo = above-behind (indexOf t) parts (r .row) rows ascends drops (test h);
+        from-hi = k .from-hi;
+      }
 
     -- the rows from lo on, as an extent of their own
     abbrev found : Extent
     found = extent (x .lengths + 2 * lo) o (x .count - lo)
 
     abbrev walk : Walk w x lo (x .lengths + 2 * lo) o
-    walk = k .bisection .walk
+    walk = between-walk (k .between)
 
     found-lengths : lengthsIn w found ≡ drop lo (lengthsIn w x)
     found-lengths =
@@ -113,7 +109,7 @@ module _ {t : Table} {w : List ℕ} {x : Extent} (s : SoundTable t w x) (parts :
     seek-end h = record {
       sound = record { inside = found-inside; rows-sound = ap (λ rs. tableFault t [] rs) found-rows ∙ sound-drop t lo [] rows (s .rows-sound) };
       are =
-          let e : lo ≡ hi = omega (arith, k .bisection .ordered) in
+          let e : lo ≡ hi = omega (arith, k .between .ordered) in
           let all : every above (drop lo rows) ≡ true = ap (λ m. every above (drop m rows)) e ∙ k .from-hi in
           ap (map (rowOf t)) (found-rows ∙ sym (k .from-lo ∙ keep-all above (drop lo rows) all)
           ∙ keep-ext above _ rows (λ r. ap (before parts) (sym (row-index t r))))

@@ -16,13 +16,14 @@ pub fn rows_above(w: &[u8], x: Extent, t: Table, parts: &[u32]) -> Extent
     let mut o = x.rows;
     // rows before `lo`, which lies at `o`, are not above, and rows from `hi` on are
     while lo < hi {
-        let mid = lo + (hi - lo) / 2;
-        let at = o + image_layout::sum(w, g + 2 * lo, mid - lo);
-        let end = at + image_layout::pair_at(w, g + 2 * mid);
-        if walk_rows::is_row_above(t, &w[at..end], parts) {
-            hi = mid;
+        let m = image_layout::middle_row(w, x, lo, hi, o);
+        let row = m.row;
+        let from = m.from;
+        let end = m.end;
+        if walk_rows::is_row_above(t, &w[from..end], parts) {
+            hi = row;
         } else {
-            lo = mid + 1;
+            lo = row + 1;
             o = end;
         }
     }
