@@ -51,7 +51,7 @@ first-is d =
     let e : d .decide-variable-in .result ≡ judgedHere d (l .column) =
     d .decide-variable-in .ensures ∙ ap (λ u. step5 u (rowsOf (a .w .now) (a .v))) (l .inv .1 .1 .0 (l .column)) in
     ap (λ r. ifAllowed r (firstRefusal (judgedHere d) (counted (l .column + 1) (l .left - 1)))) e
-    ∙ sym (ap (firstRefusal (judgedHere d)) (counted-next (l .column) (l .left) (d .before .before .loop-test .taken)))
+    ∙ sym (ap (firstRefusal (judgedHere d)) (counted-next (l .column) (l .left) (omega (arith, d .before .before .loop-test .taken))))
     ∙ l .inv .1 .1 .1
 
 allowed : {r : Decision} (next : Decision) → r ≡ Allowed → next ≡ ifAllowed r next

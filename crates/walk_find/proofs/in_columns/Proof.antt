@@ -57,7 +57,7 @@ in-column-requires c κs =
     let t = c .before in
     let l = t .before .loop in
     let s = t .before .before .before .before .before in
-    (s .pre .0, (s .pre .1 .0, and-left _ _ (rw (counted-next (l .column) (l .left) (t .loop-test .taken)) at (l .inv .1 .1 .0))))
+    (s .pre .0, (s .pre .1 .0, and-left _ _ (rw (counted-next (l .column) (l .left) (omega (arith, t .loop-test .taken))) at (l .inv .1 .1 .0))))
 
 -- where a column was searched
 abbrev start : tie.After-in-column Inv-loop μ-loop → tie.Start Inv-loop μ-loop
@@ -70,7 +70,7 @@ abbrev behind : tie.After-in-column Inv-loop μ-loop → List ℕ
 behind i = let l = i .before .before .before .loop in counted (l .column + 1) (l .left - 1)
 
 next : (i : tie.After-in-column Inv-loop μ-loop) → let l = i .before .before .before .loop in counted (l .column) (l .left) ≡ column i ∷ behind i
-next i = let l = i .before .before .before .loop in counted-next (l .column) (l .left) (i .before .before .loop-test .taken)
+next i = let l = i .before .before .before .loop in counted-next (l .column) (l .left) (omega (arith, i .before .before .loop-test .taken))
 
 left-is : (i : tie.After-in-column Inv-loop μ-loop) → let a = start i .args in
     onward (a .identifier .now) (base (a .t)) ≡ some (take (length (a .identifier .now) - a .k) (drop (a .k) (a .identifier .now)))
