@@ -14,7 +14,8 @@ use Rattle.table_update.specs.Exchange.{Sought}
 use Rattle.table_update.proofs.Stores.{rowKey}
 use Rattle.edit_rules.specs.declared.Edited.the-variants.{Done}
 use Rattle.edit_rules.specs.Storage.{storageIn, storageAt, placeFault, placed, fullAt}
-use Rattle.edit_rows.proofs.Stores.{inside-laid, rising-laid, views-laid, sought-laid, faulty-done, not-done, placed-judged, placed-full, placed-room, key-within}
+use Rattle.edit_rows.proofs.Stores.{inside-laid, rising-laid, views-laid, sought-laid, key-within}
+use Rattle.edit_rows.proofs.Stores.{faulty-done, not-done, placed-judged, placed-full, placed-room}
 use Rattle.edit_rows.proofs.Stores.{taken-within, storage-known, change-refused, change-asked, change-done}
 use Rattle.edit_rows.proofs.change.Statement.{statement}
 use Rattle.edit_rows.proofs.change.Tie as tie
