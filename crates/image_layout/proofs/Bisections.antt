@@ -2,14 +2,14 @@
 -- lies within the bytes; whichever side of it is left, its rows are again some from one row up to another. Assumes nothing.
 use mathlib.Core.Path.{_≡_, refl, sym, ap, _∙_}
 use mathlib.Core.List.{List, _∷_}
-use Prim.Native.Nat.{ℕ, zero, suc, _+_, _-_, _*_, _≤_, _<_}
+use Prim.Native.Nat.{ℕ, zero, suc, _+_, _-_, _*_, _/_, _≤_, _<_}
 use native.Mathlib.Omega.{arith}
 use lib.ListN.{length, drop}
 use lib.Seq.{drop-drop}
 use Rattle.image_layout.specs.declared.Extent.{Extent}
 use Rattle.image_layout.specs.declared.Middle.{Middle}
 use Rattle.image_layout.specs.Layout.{pair, pairs, total, rowsIn, Inside}
-use Rattle.image_layout.specs.Bisection.{Between, RowBetween}
+use Rattle.image_layout.specs.Bisection.{Between, MiddleRow}
 use Rattle.image_layout.proofs.Walks.{piece, Walk, walk-length, walk-row, walk-next, rest-slice, rest-drop}
 
 -- n rows further, by the sum of their lengths
@@ -43,8 +43,9 @@ module _ {w : List ℕ} {x : Extent} {lo hi o : ℕ} (k : Between w x lo hi o) w
       middle-length = walk-length walk s (omega (arith, k .within))
 
       module _ {l : ℕ} (f : l ≡ pair (drop (x .lengths + 2 * mid) w)) where
-        pub middle-row : RowBetween w x lo hi (record { row = mid; from = o + n; end = o + n + l })
-        middle-row = record {
+        pub middle-row : mid ≡ lo + (hi - lo) / 2 → MiddleRow w x lo hi (record { row = mid; from = o + n; end = o + n + l })
+        middle-row z = record {
+          row-is = z;
           low = p;
           high = q;
           place = walk .row-place;
@@ -54,7 +55,7 @@ module _ {w : List ℕ} {x : Extent} {lo hi o : ℕ} (k : Between w x lo hi o) w
 
   -- ---- with a row in the middle
 
-  module _ {r : Middle} (m : RowBetween w x lo hi r) where
+  module _ {r : Middle} (m : MiddleRow w x lo hi r) where
     pub row-inside : r .row < x .count
     row-inside = omega (arith, k .within, m .high)
 

@@ -3,7 +3,7 @@ ghost use mathlib.Core.Path.{_≡_};
 ghost use Prim.Native.Nat.{_+_, _*_, _≤_, _<_};
 ghost use lib.ListN.{length, drop};
 ghost use Rattle.image_layout.specs.Layout.{pair, pairs, total, extent, endOf, Inside, header, mostRows, mostPair, longestSlice};
-ghost use Rattle.image_layout.specs.Bisection.{Between, RowBetween};
+ghost use Rattle.image_layout.specs.Bisection.{Between, MiddleRow};
 
 // How many bytes stand ahead of the rows' lengths: the four counts.
 pub const HEADER: usize = 8;
@@ -85,7 +85,7 @@ pub fn middle_row(w: &[u8], x: Extent, lo: usize, hi: usize, o: usize) -> Middle
     requires inside { ⌜ Inside (now w) x ⌝ }
     requires rows { ⌜ Between (now w) x lo hi o ⌝ }
     requires some { ⌜ lo < hi ⌝ }
-    ensures { λ r. ⌜ RowBetween (now (w .entry)) x lo hi r ⌝ }
+    ensures { λ r. ⌜ MiddleRow (now (w .entry)) x lo hi r ⌝ }
 {
     let g = x.lengths;
     let row = lo + (hi - lo) / 2;

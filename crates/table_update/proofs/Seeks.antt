@@ -19,7 +19,7 @@ use Rattle.octets.specs.Order.{order}
 use Rattle.octets.proofs.Orders.{order-below, order-equal, order-above}
 use Rattle.image_layout.specs.declared.Extent.{Extent}
 use Rattle.image_layout.specs.declared.Middle.{Middle}
-use Rattle.image_layout.specs.Bisection.{Between, RowBetween}
+use Rattle.image_layout.specs.Bisection.{Between, MiddleRow}
 use Rattle.image_layout.specs.Layout.{pair, lengthsIn, rowsIn}
 use Rattle.image_layout.proofs.Walks.{piece, Walk, pairs-next, rest-slice, rest-drop, none-left}
 use Rattle.image_layout.proofs.Bisections.{between-start, between-up, between-down, row-inside, row-walk, rows-from}
@@ -112,7 +112,7 @@ search-end {w} {x} {key} {lo} {hi} {o} k h =
 
 -- the row in the middle stands to the key as d says
 module _ {w : List ℕ} {x : Extent} {key : List ℕ} (u : Rising key (rowsIn w x)) {lo hi o : ℕ} (k : Search w x key lo hi o) {r : Middle}
-    (m : RowBetween w x lo hi r) {d : Order} (e : d ≡ order (front key (piece w (r .from) (r .end))) key) where
+    (m : MiddleRow w x lo hi r) {d : Order} (e : d ≡ order (front key (piece w (r .from) (r .end))) key) where
   abbrev row : List ℕ
   row = front key (piece w (r .from) (r .end))
 

@@ -14,7 +14,7 @@ use Rattle.rows.specs.declared.Table.{Table}
 use Rattle.rows.specs.Rows.{indexOf}
 use Rattle.image_layout.specs.declared.Extent.{Extent}
 use Rattle.image_layout.specs.declared.Middle.{Middle}
-use Rattle.image_layout.specs.Bisection.{Between, RowBetween}
+use Rattle.image_layout.specs.Bisection.{Between, MiddleRow}
 use Rattle.image_layout.specs.Layout.{pairs, total, cut, extent, lengthsIn, rowsIn, Inside}
 use Rattle.image_layout.proofs.Walks.{piece, Walk, rest-drop, none-left}
 use Rattle.image_layout.proofs.Bisections.{between-start, between-walk, between-up, between-down, rows-from}
@@ -56,7 +56,7 @@ module _ {t : Table} {w : List ℕ} {x : Extent} (s : SoundTable t w x) (parts :
 
   module _ {lo hi o : ℕ} (k : Seek t w x parts lo hi o) where
     -- the row in the middle
-    module _ {r : Middle} (m : RowBetween w x lo hi r) where
+    module _ {r : Middle} (m : MiddleRow w x lo hi r) where
       abbrev row : List ℕ
       row = piece w (r .from) (r .end)
 

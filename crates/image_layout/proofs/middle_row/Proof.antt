@@ -34,7 +34,7 @@ pair-at-requires c κs = let s = c .before .before in middle-length (s .pre .1 .
 returns : tie.Need-returns
 returns c =
     let s = c .before .before .before in
-    middle-row (s .pre .1 .0) (s .pre .0) (mid s) (low s) (high s) (c .before .sum .ensures) (c .pair-at .ensures .0)
+    middle-row (s .pre .1 .0) (s .pre .0) (mid s) (low s) (high s) (c .before .sum .ensures) (c .pair-at .ensures .0) refl
 
 pub middle-row-spec : {M : Type 1} → statement M
 middle-row-spec =
