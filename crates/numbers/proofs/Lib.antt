@@ -7,3 +7,5 @@ pub mod Greatest
 pub mod Laid
 pub mod Ascending
 pub mod BigEndian
+pub mod Among
+pub mod Foremost

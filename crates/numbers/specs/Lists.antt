@@ -1,4 +1,6 @@
 -- Lists of anything, by tests that compute: the rows that pass, the first, the last, those that rank highest. Assumes nothing.
+use mathlib.Core.Path.{_≡_}
+use mathlib.Core.Logic.{_⊎_}
 use mathlib.Core.Bool.{Bool, true, false, cond, _&&_, _||_}
 use mathlib.Core.List.{List, [], _∷_}
 use mathlib.Core.Option.{Option, none, some}
@@ -46,3 +48,12 @@ module _ {A : Type 0} where
   abbrev pub isNone : Option A → Bool
   isNone none = true
   isNone (some x) = false
+
+  -- x is one of them
+  abbrev pub Among : A → List A → Type 0
+  Among x [] = ⊥
+  Among x (y ∷ ys) = (x ≡ y) ⊎ Among x ys
+
+  -- none of them passes the test
+  abbrev pub NoneOf : (A → Bool) → List A → Type 0
+  NoneOf p xs = (x : A) → Among x xs → p x ≡ false
