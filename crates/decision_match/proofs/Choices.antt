@@ -1,25 +1,24 @@
 -- What a call that hands back a row comes to, by what the survey of its store answered: its fault, 6 or 7, or, past both, the choice among the rows of
 -- the table that is held. Assumes nothing.
 use mathlib.Core.Path.{_≡_, sym, ap}
-use mathlib.Core.Bool.{Bool, true, false, cond}
+use mathlib.Core.Bool.{Bool, true}
 use mathlib.Core.List.{List, map}
-use mathlib.Core.Option.{Option, none, some}
+use mathlib.Core.Option.{Option}
 use Prim.Native.Nat.{ℕ, _≤_}
 use native.Mathlib.Omega.{arith}
 use lib.ListN.{length}
 use Rattle.answers.specs.declared.Fault.{Fault}
-use Rattle.answers.specs.declared.Fault.the-variants.{NotSound, OutOfRange}
 use Rattle.numbers.proofs.Bools.{and-left, and-right}
-use Rattle.rows.specs.Fields.{within, orElse}
+use Rattle.rows.specs.Fields.{within}
 use Rattle.rows.specs.Rows.{accessOf, viewOf}
 use Rattle.rows.specs.Tables.{Tables}
 use Rattle.rows.proofs.Sound.{within-least, within-most}
 use Rattle.image_layout.specs.declared.Layout.{Layout}
 use Rattle.image_layout.specs.Layout.{rowsIn, layoutOf}
 use Rattle.image_judge.specs.declared.Surveyed.the-variants.{Bad}
-use Rattle.image_judge.specs.Faults.{surveyed, tablesAt, tablesIn}
-use Rattle.image.specs.Store.{isSound, storeFault, callFault, held}
-use Rattle.image.proofs.Surveys.{Called}
+use Rattle.image_judge.specs.Faults.{surveyed, tablesAt}
+use Rattle.image.specs.Store.{callFault, held}
+use Rattle.image.proofs.Surveys.{Called, call-refused}
 use Rattle.decision_steps.specs.Request.{longestName, mostParts}
 use Rattle.decision_steps.specs.Decision.{chosenAccess, chosenView}
 use Rattle.decision_find.specs.Found.{rowsOfView}
@@ -28,18 +27,10 @@ use Rattle.decision_match.specs.Matches.{faulty, chosen, choice, legalVi
 
 -- ---- a call refused, of any table
 
-refused : {R : Type 0} (sound legal : Bool) (t : Tables) (choose : Tables → Option R) (d : Layout) {f : Fault}
-    → Bad f ≡ surveyed (orElse (cond sound none (some NotSound)) (cond legal none (some OutOfRange))) d
-    → choice (cond sound (some t) none) legal choose ≡ faulty f
-refused true true t choose d e = cc
-refused true false t choose d {f} e = let z : OutOfRange ≡ f = cc in ap faulty z
-refused false legal t choose d {f} e = let z : NotSound ≡ f = cc in ap faulty z
-
 module _ (w : List ℕ) {f : Fault} where
   choice-refused : {R : Type 0} (legal : Bool) (choose : Tables → Option R) → Bad f ≡ surveyed (callFault w legal) (layoutOf w)
       → choice (held w) legal choose ≡ faulty f
-  unfolding callFault storeFault held
-  choice-refused legal choose e = refused (isSound w) legal (tablesIn w) choose (layoutOf w) e
+  choice-refused legal choose e = call-refused (λ g. choice (held w) legal choose ≡ faulty g) w legal e (λ n. rw n) (λ t h l. rw (h, l))
 
   pub view-refused : (name variable : List ℕ) → Bad f ≡ surveyed (callFault w (legalView (length name) (length variable))) (layoutOf w)
       → viewChoice (held w) name variable ≡ faulty f

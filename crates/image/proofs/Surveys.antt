@@ -1,7 +1,7 @@
 -- An image or a store surveyed: its counts read (`Counted`), each test settles what the definition answers, and past the tests
 -- the answer is that of the rows. A store that has its length is sound exactly where nothing is wrong with the image at its front. What is
 -- sound has passed each test, so that its tables lie within it and are sound. Assumes nothing.
-use mathlib.Core.Path.{_≡_, refl, sym, ap, _∙_}
+use mathlib.Core.Path.{_≡_, refl, sym, ap, subst, _∙_}
 use mathlib.Core.Bool.{Bool, true, false, cond, _&&_}
 use mathlib.Core.List.{List}
 use mathlib.Core.Option.{Option, none, some}
@@ -13,15 +13,16 @@ use borrow.Author.Tests.{lt-ltb, le-ltb, lt-leb, leb-true, eq-eqb, ne-eqb, eqb-t
 use Rattle.answers.specs.declared.Fault.{Fault}
 use Rattle.answers.specs.declared.Fault.the-variants.{NotSound, OutOfRange, Torn, TableFull}
 use Rattle.numbers.specs.Lists.{isNone}
-use Rattle.numbers.proofs.Bools.{and-left, and-right}
+use Rattle.numbers.proofs.Bools.{clash, and-left, and-right}
 use Rattle.rows.specs.Fields.{orElse}
+use Rattle.rows.specs.Tables.{Tables}
 use Rattle.rows.proofs.Sound.{cond-none}
 use Rattle.image_layout.specs.declared.Layout.{Layout}
 use Rattle.image_layout.specs.Layout.{count, imageLength, imageEnd, withinLimits, header, laidOut, layoutOf}
 use Rattle.image_layout.proofs.Layouts.{laid-within}
 use Rattle.image_judge.specs.declared.Surveyed.{Surveyed}
 use Rattle.image_judge.specs.declared.Surveyed.the-variants.{Laid, Bad}
-use Rattle.image_judge.specs.Faults.{rowsFault, SoundLayout, surveyed, tablesAt}
+use Rattle.image_judge.specs.Faults.{rowsFault, SoundLayout, surveyed, tablesAt, tablesIn}
 use Rattle.image_judge.proofs.Tables.{sound-tables}
 use Rattle.image.specs.Image.{sizedFault, frontFault, imageFault, fits}
 use Rattle.image.specs.Store.{room, soundRows, isSound, storeFault, callFault, held, soundly}
@@ -223,3 +224,15 @@ call-laid w legal {l} e =
     let q = or-none (storeFault w) legal (p .0) in
     let s : Laid l ≡ surveyed (storeFault w) (layoutOf w) = rw (q .0) (ap Laid (p .1)) in
     record { in-range = q .1; sound = store-sound-layout w s; holds = store-held w s }
+
+refused : (P : Fault → Type 0) (sound legal : Bool) (t : Tables) {f : Fault}
+    → orElse (cond sound none (some NotSound)) (cond legal none (some OutOfRange)) ≡ some f
+    → (cond sound (some t) none ≡ none → P NotSound) → ((u : Tables) → cond sound (some t) none ≡ some u → legal ≡ false → P OutOfRange) → P f
+refused P true true t e n o = clash refl (ap isNone e)
+refused P true false t {f} e n o = let z : OutOfRange ≡ f = cc in subst P z (o t refl refl)
+refused P false legal t {f} e n o = let z : NotSound ≡ f = cc in subst P z (n refl)
+
+pub call-refused : (P : Fault → Type 0) (w : List ℕ) (legal : Bool) {f : Fault} → Bad f ≡ surveyed (callFault w legal) (layoutOf w)
+    → (held w ≡ none → P NotSound) → ((t : Tables) → held w ≡ some t → legal ≡ false → P OutOfRange) → P f
+unfolding callFault storeFault held
+call-refused P w legal e n o = refused P (isSound w) legal (tablesIn w) (bad-some (callFault w legal) (layoutOf w) e) n o

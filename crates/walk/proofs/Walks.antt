@@ -1,13 +1,12 @@
 -- A walk over sound tables: they ascend, so that the least instance that follows is the first (`Ascending`); and once steps 1 to 4
 -- came to a view, what may be read is what the view lets be read. Assumes nothing.
-use mathlib.Core.Path.{_≡_, refl, sym, ap, _∙_}
-use mathlib.Core.Bool.{Bool, true, false, cond, _&&_}
+use mathlib.Core.Path.{_≡_, sym, ap, _∙_}
+use mathlib.Core.Bool.{true, _&&_}
 use mathlib.Core.List.{List, [], map}
-use mathlib.Core.Option.{Option, none, some}
+use mathlib.Core.Option.{Option}
 use Prim.Native.Nat.{ℕ}
 use Rattle.answers.specs.declared.Cause.{Cause}
 use Rattle.answers.specs.declared.Fault.{Fault}
-use Rattle.answers.specs.declared.Fault.the-variants.{NotSound, OutOfRange}
 use Rattle.numbers.specs.Laid.{laid}
 use Rattle.numbers.specs.Lists.{find}
 use Rattle.numbers.specs.Order.{before}
@@ -15,16 +14,15 @@ use Rattle.numbers.proofs.Keeps.{find-ext}
 use Rattle.numbers.proofs.Greatest.{Ascends}
 use Rattle.rows.specs.declared.Table.{Table}
 use Rattle.rows.specs.declared.Table.the-variants.{Context, Mapping, Access, View}
-use Rattle.rows.specs.Fields.{orElse}
 use Rattle.rows.specs.Tables.{Tables}
 use Rattle.image_layout.specs.declared.Extent.{Extent}
 use Rattle.image_layout.specs.declared.Layout.{Layout}
 use Rattle.image_layout.specs.Layout.{rowsIn, layoutOf}
 use Rattle.image_judge.specs.declared.Surveyed.the-variants.{Bad}
-use Rattle.image_judge.specs.Faults.{SoundTable, SoundLayout, surveyed, tablesAt, tablesIn}
+use Rattle.image_judge.specs.Faults.{SoundTable, SoundLayout, surveyed, tablesAt}
 use Rattle.image_judge.proofs.Sound.{ascends-rows}
-use Rattle.image.specs.Store.{isSound, storeFault, callFault, held}
-use Rattle.image.proofs.Surveys.{Called}
+use Rattle.image.specs.Store.{callFault, held}
+use Rattle.image.proofs.Surveys.{Called, call-refused}
 use Rattle.decision_steps.specs.Request.{read}
 use Rattle.decision_parts.specs.declared.Authorized.{Authorized}
 use Rattle.decision_parts.specs.declared.NamedView.{NamedView}
@@ -89,19 +87,12 @@ module _ {w : List ℕ} {l : Layout} {model : ℕ} {name : List ℕ} {level : �
 
 -- ---- the call: 6, 7, or the walk on the tables held
 
-refused : (sound legal : Bool) (ts : Tables) (c : Caller) (identifier : List ℕ) (d : Layout) {f : Fault} → legalWalk c identifier ≡ legal
-    → Bad f ≡ surveyed (orElse (cond sound none (some NotSound)) (cond legal none (some OutOfRange))) d
-    → walkIn (cond sound (some ts) none) c identifier ≡ refusal (Walked.Faulty f)
-unfolding walkOn
-refused true true ts c identifier d h e = cc
-refused true false ts c identifier d {f} h e = let z : OutOfRange ≡ f = cc in rw (h, z)
-refused false legal ts c identifier d {f} h e = let z : NotSound ≡ f = cc in rw z
-
 module _ (w : List ℕ) (c : Caller) (identifier : List ℕ) where
   pub walk-refused : {f : Fault} → Bad f ≡ surveyed (callFault w (legalWalk c identifier)) (layoutOf w)
       → walkIn (held w) c identifier ≡ refusal (Walked.Faulty f)
-  unfolding callFault storeFault held
-  walk-refused e = refused (isSound w) (legalWalk c identifier) (tablesIn w) c identifier (layoutOf w) refl e
+  unfolding walkOn
+  walk-refused e =
+      call-refused (λ f. walkIn (held w) c identifier ≡ refusal (Walked.Faulty f)) w (legalWalk c identifier) e (λ n. rw n) (λ ts h l. rw (h, l))
 
   pub walk-laid : {l : Layout} → Called w (legalWalk c identifier) l → walkIn (held w) c identifier ≡ walkOn (tablesAt w l) c identifier
   walk-laid k = ap (λ o. walkIn o c identifier) (k .holds)
