@@ -2,6 +2,8 @@
 use answers::Answer;
 use answers::Decision;
 use answers::Fault;
+use decision_find::Found;
+use decision_find::ViewRows;
 use decision_parts::NamedView;
 use decision_parts::Standing;
 use image_judge::Surveyed;
@@ -10,10 +12,13 @@ use rows::MODEL_MAX;
 ghost use mathlib.Core.Path.{_≡_};
 ghost use Prim.Native.Nat.{_≤_};
 ghost use lib.ListN.{length};
+ghost use Rattle.rows.specs.declared.Table.the-variants.{View};
+ghost use Rattle.rows.specs.Rows.{viewOf};
 ghost use Rattle.image_judge.specs.Faults.{SoundLayout, tablesAt};
 ghost use Rattle.decision_steps.specs.Request.{asked, inRange, mostParts};
-ghost use Rattle.decision_steps.specs.Decision.{step5, decision, answerOn};
+ghost use Rattle.decision_steps.specs.Decision.{chosenView, step5, decision, answerOn};
 ghost use Rattle.decision_steps.specs.Bytes.{identifier};
+ghost use Rattle.decision_find.specs.Found.{Chosen, RowsTo, rowsOfView};
 ghost use Rattle.decision_parts.specs.Parts.{ViewIn, rowsOf};
 ghost use Rattle.decision.specs.Decides.{Decides};
 
@@ -31,7 +36,7 @@ pub const LONGEST_NAME: usize = 32;
 
 pub const MOST_PARTS: usize = 128;
 
-pub const MOST_BYTES: usize = 512;
+const MOST_BYTES: usize = 512;
 
 // ---- the decision by its two parts
 
@@ -67,16 +72,39 @@ pub fn decide(
     }
 }
 
-// Step 5 of a variable in numbers, no more than 128 of them: the decision on it by the view.
+// The row that decides on a variable in numbers, no more than 128 of them, among rows that hold all of the view.
+pub fn variable_row(w: &[u8], rows: ViewRows, view_name: &[u8], variable_name: &[u32]) -> Found
+    requires rows { ⌜ RowsTo (now w) rows ⌝ }
+    requires parts { ⌜ length (now «variable_name») ≤ mostParts ⌝ }
+    ensures { λ r. ⌜ Chosen View viewOf (now (w .entry)) r
+        (chosenView (now («variable_name» .entry)) (rowsOfView (now («view_name» .entry)) (now (w .entry)) (rows .rows))) ⌝ }
+{
+    let mut bytes = [0u8; MOST_BYTES];
+    let n = 4 * variable_name.len();
+    numbers::put_quads(&mut bytes[0..n], variable_name);
+    decision_find::find_view_row(w, rows, view_name, &bytes[0..n])
+}
+
+// The same of a view whose name lies in the image.
+pub fn variable_row_in(w: &[u8], v: NamedView, variable_name: &[u32]) -> Found
+    requires view { ⌜ ViewIn (now w) v ⌝ }
+    requires parts { ⌜ length (now «variable_name») ≤ mostParts ⌝ }
+    ensures { λ r. ⌜ Chosen View viewOf (now (w .entry)) r (chosenView (now («variable_name» .entry)) (rowsOf (now (w .entry)) v)) ⌝ }
+{
+    let from = v.from;
+    let to = v.to;
+    let rows = v.rows;
+    variable_row(w, rows, &w[from..to], variable_name)
+}
+
+// Step 5 of such a variable: the decision on it by the view.
 pub fn decide_variable_in(w: &[u8], v: NamedView, variable_name: &[u32]) -> Decision
     requires view { ⌜ ViewIn (now w) v ⌝ }
     requires parts { ⌜ length (now «variable_name») ≤ mostParts ⌝ }
     ensures { λ r. ⌜ r ≡ step5 (now («variable_name» .entry)) (rowsOf (now (w .entry)) v) ⌝ }
 {
-    let mut bytes = [0u8; MOST_BYTES];
-    let n = 4 * variable_name.len();
-    numbers::put_quads(&mut bytes[0..n], variable_name);
-    decision_parts::decide_in(w, v, &bytes[0..n])
+    let row = variable_row_in(w, v, variable_name);
+    decision_parts::by_row(w, row)
 }
 
 // The same of a variable in numbers, no more than 128 of them.

@@ -3,7 +3,6 @@
 use answers::Fault;
 use decision::AUTH_PRIV;
 use decision::LONGEST_NAME;
-use decision::MOST_BYTES;
 use decision::MOST_PARTS;
 use decision::NO_AUTH_NO_PRIV;
 use decision_find::Found;
@@ -109,12 +108,9 @@ fn view_row(
         (chosen (chosenView (now («variable_name» .entry)) (rowsOfView (now («view_name» .entry)) (now (w .entry)) x)))
         (now (key .entry)) (now (key .exit)) r ⌝ }
 {
-    let mut bytes = [0u8; MOST_BYTES];
-    let n = 4 * variable_name.len();
-    numbers::put_quads(&mut bytes[0..n], variable_name);
     let end = image_layout::end_of(w, x);
     let rows = ViewRows { rows: x, end };
-    let found = decision_find::find_view_row(w, rows, view_name, &bytes[0..n]);
+    let found = decision::variable_row(w, rows, view_name, variable_name);
     let Found::Row(at, to) = found else {
         return ViewMatch::Nothing;
     };

@@ -9,13 +9,16 @@ use image_layout::Extent;
 use image_layout::Layout;
 ghost use mathlib.Core.Path.{_≡_};
 ghost use mathlib.Core.List.{map};
+ghost use mathlib.Core.Option.{Option·map};
+ghost use Rattle.answers.specs.declared.Cause.the-variants.{NotInView};
+ghost use Rattle.numbers.specs.Lists.{OnSome};
 ghost use Rattle.rows.specs.declared.Table.the-variants.{Mapping, Access, View};
 ghost use Rattle.rows.specs.Rows.{mappingOf, accessOf, viewOf};
 ghost use Rattle.image_layout.specs.Layout.{rowsIn};
 ghost use Rattle.image_judge.specs.Faults.{SoundTable, SoundLayout};
-ghost use Rattle.decision_steps.specs.Decision.{chosenAccess, viewFor, chosenView, step5};
+ghost use Rattle.decision_steps.specs.Decision.{chosenAccess, viewFor, chosenView, orRefused, byType, step5};
 ghost use Rattle.decision_steps.specs.Bytes.{Whole, identifier};
-ghost use Rattle.decision_find.specs.Found.{Lies, Chosen};
+ghost use Rattle.decision_find.specs.Found.{bytesAt, Lies, FoundIn, Chosen};
 ghost use Rattle.decision_parts.specs.Parts.{part, ViewIn, rowsOf, overRows, Says, Authorizes};
 
 // A view: its name lies from `from` to `to` in the image, and `rows` holds all its rows.
@@ -172,12 +175,12 @@ pub fn deciding_row(w: &[u8], v: NamedView, variable: &[u8]) -> Found
     decision_find::find_view_row(w, rows, &w[from..to], variable)
 }
 
-// Step 5: the decision on the variable by the view.
-pub fn decide_in(w: &[u8], v: NamedView, variable: &[u8]) -> Decision
-    requires { ⌜ ViewIn (now w) v ⌝ }
-    ensures { λ r. ⌜ r ≡ step5 (identifier (now (variable .entry))) (rowsOf (now (w .entry)) v) ⌝ }
+// What step 5 answers by the row that decides: notInView where none does.
+pub fn by_row(w: &[u8], row: Found) -> Decision
+    requires lies { ⌜ FoundIn (now w) row ⌝ }
+    requires whole { ⌜ OnSome (Whole View) (bytesAt (now w) row) ⌝ }
+    ensures { λ r. ⌜ r ≡ orRefused NotInView (Option·map viewOf (bytesAt (now (w .entry)) row)) byType ⌝ }
 {
-    let row = deciding_row(w, v, variable);
     let Found::Row(at, end) = row else {
         return Decision::Refused(Cause::NotInView);
     };
@@ -185,4 +188,13 @@ pub fn decide_in(w: &[u8], v: NamedView, variable: &[u8]) -> Decision
         return Decision::Allowed;
     }
     Decision::Refused(Cause::NotInView)
+}
+
+// Step 5: the decision on the variable by the view.
+pub fn decide_in(w: &[u8], v: NamedView, variable: &[u8]) -> Decision
+    requires { ⌜ ViewIn (now w) v ⌝ }
+    ensures { λ r. ⌜ r ≡ step5 (identifier (now (variable .entry))) (rowsOf (now (w .entry)) v) ⌝ }
+{
+    let row = deciding_row(w, v, variable);
+    by_row(w, row)
 }
