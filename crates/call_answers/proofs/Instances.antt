@@ -15,12 +15,13 @@ use Rattle.answers.specs.declared.Fault.the-variants.{TooShort, NotAnInstance}
 use Rattle.answers.specs.declared.Written.{Written}
 use Rattle.answers.specs.declared.Written.the-variants.{Length, Unwritten}
 use Rattle.numbers.specs.Lists.{isNone}
+use Rattle.rows.specs.declared.Operation.the-variants.{Remove}
 use Rattle.rows.specs.declared.Table.{Table}
 use Rattle.rows.specs.Fields.{faults, values}
 use Rattle.rows.specs.Rows.{keyFields, indexOf}
 use Rattle.rows.proofs.Sound.{cond-none}
 use Rattle.numbers.specs.BigEndian.{Octets}
-use Rattle.rows.proofs.Inverse.{values-made}
+use Rattle.rows.proofs.Inverse.{values-made, legals-read}
 use Rattle.instance_decode.specs.declared.Decoded.{Decoded}
 use Rattle.instance_decode.specs.declared.Decoded.the-variants.{Instance, Faulty}
 use Rattle.instance_encode.specs.Instances.{base, instance, lists, encodeFault, written, Encodes}
@@ -31,7 +32,7 @@ use Rattle.instance_decode.proofs.Inverse.{writes-read}
 use Rattle.text_values.specs.Texts.{decimalText, dotsText, dottedText}
 use Rattle.text_rows.specs.RowText.{keyText}
 use Rattle.text_values.proofs.Digits.{length-decimal}
-use Rattle.text_rows.proofs.TextLength.{length-key}
+use Rattle.text_rows.proofs.TextLength.{length-entry}
 use Rattle.call_answers.specs.Answers.{parts, oidText, instanceWord, faultText, instanceText, columnKeyOf, decodedText, answerRoom}
 
 -- ---- an instance encoded
@@ -107,7 +108,13 @@ module _ (t : Table) (column : ℕ) (key found after : List ℕ) {r : Written} (
 pub column-key-short : (t : Table) (column : ℕ) (key : List ℕ) → Octets key → faults (keyFields t) key ≡ none
     → length (columnKeyOf t column key) ≤ 921
 column-key-short t column key b h =
-    omega (arith, length-append (decimalText column) (32 ∷ keyText t (values (keyFields t) key)), length-decimal column, length-key t key b h)
+    let fields = values (keyFields t) key in
+    omega (
+      arith,
+      length-append (decimalText column) (32 ∷ keyText t fields),
+      length-decimal column,
+      length-entry Remove t fields (legals-read (keyFields t) key b h),
+    )
 
 column-fields : (t : Table) (v : List ℕ) (d : Reading) → readColumn t v ≡ some d → values (keyFields (d .table)) (keyBytes d) ≡ d .fields
 unfolding readColumn

@@ -10,31 +10,35 @@ use lib.ListN.{length, take, drop, length-append}
 use lib.Seq.{take-append-seam}
 use Rattle.answers.specs.declared.Fault.{Fault}
 use Rattle.numbers.specs.BigEndian.{Octets}
+use Rattle.rows.specs.declared.Operation.the-variants.{Remove}
 use Rattle.rows.specs.declared.Table.{Table}
 use Rattle.rows.specs.declared.Table.the-variants.{Access, View}
 use Rattle.rows.specs.Fields.{faults, values, legals}
 use Rattle.rows.specs.Rows.{AccessRow, ViewRow, keyFields}
-use Rattle.rows.proofs.Inverse.{faults-made, values-made}
+use Rattle.rows.proofs.Inverse.{faults-made, values-made, legals-read}
 use Rattle.decision_match.specs.declared.ViewMatch.{ViewMatch}
 use Rattle.decision_match.specs.declared.AccessMatch.{AccessMatch}
 use Rattle.decision_match.specs.Matches.{Choice, faulty, chosen, viewKeyOf, accessKeyOf, keyBytes, viewMatch, accessMatch, HandsView, HandsAccess}
 use Rattle.text_values.specs.Texts.{decimalText}
 use Rattle.text_values.proofs.Digits.{length-decimal}
 use Rattle.text_rows.specs.RowText.{keyText}
-use Rattle.text_rows.proofs.TextLength.{length-key}
+use Rattle.text_rows.proofs.TextLength.{length-entry}
 use Rattle.call_answers.specs.Answers.{faultText, answerRoom}
 use Rattle.call_matches.specs.Texts.{noneText, typedText, viewMatchText, accessMatchText}
 
 -- ---- short texts
 
+key-length : (t : Table) (key : List ℕ) → Octets key → faults (keyFields t) key ≡ none → length (keyText t (values (keyFields t) key)) ≤ 900
+key-length t key o h = length-entry Remove t (values (keyFields t) key) (legals-read (keyFields t) key o h)
+
 pub key-short : (t : Table) (key : List ℕ) → Octets key → faults (keyFields t) key ≡ none → length (keyText t (values (keyFields t) key)) ≤ answerRoom
-key-short t key o h = omega (arith, length-key t key o h)
+key-short t key o h = omega (arith, key-length t key o h)
 
 pub typed-short : (key : List ℕ) (type : ℕ) → Octets key → faults (keyFields View) key ≡ none
     → length (typedText (values (keyFields View) key) type) ≤ answerRoom
 typed-short key type o h =
     let k = keyText View (values (keyFields View) key) in
-    omega (arith, length-append k (32 ∷ decimalText type), length-decimal type, length-key View key o h)
+    omega (arith, length-append k (32 ∷ decimalText type), length-decimal type, key-length View key o h)
 
 -- ---- a key at the front of the lent room
 

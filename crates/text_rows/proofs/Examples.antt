@@ -13,7 +13,7 @@ use Rattle.rows.specs.declared.Operation.the-variants.{Put, Remove}
 use Rattle.text_fields.specs.RowWords.{fieldsSaid}
 use Rattle.text_rows.specs.TableWords.{tableNamed}
 use Rattle.text_rows.specs.EntryWords.{entrySaid}
-use Rattle.text_rows.specs.RowText.{fieldsText, keyText}
+use Rattle.text_rows.specs.RowText.{fieldsText, entryText, keyText}
 
 -- mapping 3 616e6e 61 3 1
 abbrev pub annLine : List ℕ
@@ -37,15 +37,15 @@ ann-key = refl
 -- `mapping 3 616e6e`, `access 61 - 0 3` and `view 616c6c 1.3.6.1`, as computed
 pub ann-text : keyText Mapping ((3 ∷ []) ∷ (97 ∷ 110 ∷ 110 ∷ []) ∷ [])
     ≡ 109 ∷ 97 ∷ 112 ∷ 112 ∷ 105 ∷ 110 ∷ 103 ∷ 32 ∷ 51 ∷ 32 ∷ 54 ∷ 49 ∷ 54 ∷ 101 ∷ 54 ∷ 101 ∷ []
-unfolding keyText keyFields fieldsText nameText hexText decimalText digits
+unfolding entryText keyFields fieldsText nameText hexText decimalText digits
 ann-text = refl
 
 pub access-text : keyText Access ((97 ∷ []) ∷ [] ∷ (0 ∷ []) ∷ (3 ∷ []) ∷ [])
     ≡ 97 ∷ 99 ∷ 99 ∷ 101 ∷ 115 ∷ 115 ∷ 32 ∷ 54 ∷ 49 ∷ 32 ∷ 45 ∷ 32 ∷ 48 ∷ 32 ∷ 51 ∷ []
-unfolding keyText keyFields fieldsText nameText hexText decimalText digits
+unfolding entryText keyFields fieldsText nameText hexText decimalText digits
 access-text = refl
 
 pub all-text : keyText View ((97 ∷ 108 ∷ 108 ∷ []) ∷ (1 ∷ 3 ∷ 6 ∷ 1 ∷ []) ∷ [])
     ≡ 118 ∷ 105 ∷ 101 ∷ 119 ∷ 32 ∷ 54 ∷ 49 ∷ 54 ∷ 99 ∷ 54 ∷ 99 ∷ 32 ∷ 49 ∷ 46 ∷ 51 ∷ 46 ∷ 54 ∷ 46 ∷ 49 ∷ []
-unfolding keyText keyFields fieldsText nameText hexText dottedText dotsText decimalText digits
+unfolding entryText keyFields fieldsText nameText hexText dottedText dotsText decimalText digits
 all-text = refl

@@ -1,4 +1,4 @@
--- A row's text put field by field, and a key's behind the table's word.
+-- A row's text put field by field, behind the table's word.
 -- What is left (`Left`) is a list of fields without fault from a place in the row on, whose text is still to be put. The field at the place is
 -- the next part of the text, behind a space, and the next one begins where it ends. Assumes nothing.
 use mathlib.Core.Path.{_≡_, ap, sym, subst, _∙_}
@@ -7,17 +7,19 @@ use mathlib.Core.Option.{none}
 use Prim.Native.Nat.{ℕ, _+_, _≤_}
 use native.Mathlib.Omega.{arith}
 use lib.ListN.{length, take, drop, length-append}
+use Rattle.rows.specs.declared.Operation.{Operation}
 use Rattle.rows.specs.declared.Table.{Table}
 use Rattle.rows.specs.declared.Form.{Form}
-use Rattle.rows.specs.Fields.{Field, fault, taken, value, faults, values}
+use Rattle.rows.specs.Fields.{Field, fault, value, faults, values}
 use Rattle.rows.specs.Forms.{fieldOf}
 use Rattle.rows.specs.Rows.{keyFields, rowFields}
 use Rattle.rows.proofs.Places.{Next, next}
+use Rattle.edit_rules.specs.Edits.{fieldsOf}
 use Rattle.text_values.specs.Texts.{Puts}
 use Rattle.text_values.proofs.Puts.{Onward, start, room, step, done, both, behind}
 use Rattle.text_rows.specs.TableWords.{tableWord}
 use Rattle.text_rows.specs.FieldText.{fieldText, FieldIn}
-use Rattle.text_rows.specs.RowText.{fieldsText, keyText}
+use Rattle.text_rows.specs.RowText.{fieldsText, entryText}
 use Rattle.rows.proofs.Forms.{key-first}
 
 -- ---- field by field
@@ -75,23 +77,23 @@ module _ {text : List ℕ} {at : ℕ} {w₀ : List ℕ} {row : List ℕ} {k o : 
           onward = step said others spaced r;
         }
 
--- ---- a key: the table's word, and the key's fields
+-- ---- a row or a key: the table's word, and the fields
 
 pub key-fields : (t : Table) {n : ℕ} → n ≡ length (keyFields t) → take n (rowFields t) ≡ keyFields t
 key-fields t e = ap (λ m. take m (rowFields t)) e ∙ key-first t
 
-module _ (t : Table) (xs : List (List ℕ)) (at : ℕ) (w : List ℕ) (h : at + length (keyText t xs) ≤ length w) where
-  whole : at + length (tableWord t ++ fieldsText (keyFields t) xs) ≤ length w
-  unfolding keyText
+module _ (o : Operation) (t : Table) (xs : List (List ℕ)) (at : ℕ) (w : List ℕ) (h : at + length (entryText o t xs) ≤ length w) where
+  whole : at + length (tableWord t ++ fieldsText (fieldsOf o t) xs) ≤ length w
+  unfolding entryText
   whole = h
 
   pub word-room : at + length (tableWord t) ≤ length w
-  word-room = omega (arith, whole, length-append (tableWord t) (fieldsText (keyFields t) xs))
+  word-room = omega (arith, whole, length-append (tableWord t) (fieldsText (fieldsOf o t) xs))
 
   module _ {r : ℕ} {after : List ℕ} (p : Puts (tableWord t) at w after r) where
-    pub key-room : r + length (fieldsText (keyFields t) xs) ≤ length after
-    key-room = behind (tableWord t) (fieldsText (keyFields t) xs) whole p
+    pub fields-room : r + length (fieldsText (fieldsOf o t) xs) ≤ length after
+    fields-room = behind (tableWord t) (fieldsText (fieldsOf o t) xs) whole p
 
-    pub key-put : {e : ℕ} {end : List ℕ} → Puts (fieldsText (keyFields t) xs) r after end e → Puts (keyText t xs) at w end e
-    unfolding keyText
-    key-put q = both (tableWord t) (fieldsText (keyFields t) xs) whole p q
+    pub entry-put : {e : ℕ} {end : List ℕ} → Puts (fieldsText (fieldsOf o t) xs) r after end e → Puts (entryText o t xs) at w end e
+    unfolding entryText
+    entry-put q = both (tableWord t) (fieldsText (fieldsOf o t) xs) whole p q

@@ -1,29 +1,42 @@
--- A key's text is short: its names have 32 octets at most, its subtree 64 sub-identifiers, and a number of four bytes ten digits.
+-- The text of a legal row or key is short: its names have 32 octets at most, its subtree 64 sub-identifiers, and a number of four bytes ten digits.
 -- Assumes nothing.
-use mathlib.Core.Path.{_≡_}
+use mathlib.Core.Path.{_≡_, refl}
+use mathlib.Core.Bool.{true}
 use mathlib.Core.List.{List, [], _∷_}
-use mathlib.Core.Option.{none}
 use Prim.Native.Nat.{ℕ, zero, suc, _+_, _*_, _≤_, _<_}
 use native.Mathlib.Omega.{arith}
-use lib.ListN.{length, drop, getD, length-append}
+use lib.Dec.{ltb}
+use lib.ListN.{length, getD, length-append}
+use borrow.Author.Tests.{ltb-true}
+use Rattle.numbers.specs.BigEndian.{Width, octet, quad, bound, fit}
+use Rattle.numbers.proofs.Bools.{clash, and-left, and-right}
+use Rattle.rows.specs.declared.Operation.{Operation}
+use Rattle.rows.specs.declared.Operation.the-variants.{Put, Remove}
 use Rattle.rows.specs.declared.Table.{Table}
 use Rattle.rows.specs.declared.Table.the-variants.{Context, Mapping, Access, View}
-use Rattle.numbers.specs.BigEndian.{octet, quad, number, numbers, Octets}
-use Rattle.rows.specs.Fields.{Field, sequence, integer, fault, taken, value, faults, values}
-use Rattle.rows.specs.Rows.{keyFields}
-use Rattle.rows.proofs.Sound.{faults-first, faults-rest}
-use Rattle.numbers.proofs.BigEndian.{length-numbers, number-bound, octets-drop}
-use Rattle.rows.proofs.Places.{sequence-at}
+use Rattle.rows.specs.Fields.{Field, sequence, integer, within, legal, legals}
+use Rattle.rows.specs.Rows.{keyFields, rowFields}
+use Rattle.rows.proofs.Sound.{within-most}
+use Rattle.edit_rules.specs.Edits.{fieldsOf}
 use Rattle.text_rows.specs.TableWords.{tableWord}
 use Rattle.text_rows.specs.FieldText.{fieldText}
-use Rattle.text_rows.specs.RowText.{fieldsText, keyText}
+use Rattle.text_rows.specs.RowText.{fieldsText, entryText}
 use Rattle.text_values.proofs.Digits.{length-decimal-quad}
 use Rattle.text_values.proofs.Parts.{length-name, length-dotted}
 
-quads-bound : (n : ℕ) (v : List ℕ) → Octets v → (i : ℕ) → getD (numbers quad n v) i 0 < 4294967296
-quads-bound zero v h i = omega arith
-quads-bound (suc n) v h zero = number-bound quad v h
-quads-bound (suc n) v h (suc i) = quads-bound n (drop 4 v) (octets-drop 4 v h) i
+quads-bound : (xs : List ℕ) → fit quad xs ≡ true → (i : ℕ) → getD xs i 0 < 4294967296
+quads-bound [] h i = omega arith
+quads-bound (x ∷ xs) h zero = ltb-true x (bound quad) (and-left _ _ h)
+quads-bound (x ∷ xs) h (suc i) = quads-bound xs (and-right (ltb x (bound quad)) _ h) i
+
+bound-most : (w : Width) → bound w ≤ 4294967296
+bound-most octet = omega arith
+bound-most quad = omega arith
+
+number-bound : (w : Width) (lo hi : ℕ) (x : List ℕ) → legal (integer w lo hi) x ≡ true → getD x 0 0 < 4294967296
+number-bound w lo hi [] h = clash h refl
+number-bound w lo hi (x ∷ []) h = omega (arith, ltb-true x (bound w) (and-right (within lo hi x) _ h), bound-most w)
+number-bound w lo hi (x ∷ y ∷ ys) h = clash h refl
 
 -- how long a field's text is at most
 most : Field → ℕ
@@ -31,43 +44,40 @@ most (sequence octet lo hi) = 2 * hi + 1
 most (sequence quad lo hi) = 11 * hi + 1
 most (integer w lo hi) = 10
 
-field-short : (k : Field) (v : List ℕ) → Octets v → fault k v ≡ none → length (fieldText k (value k v)) ≤ most k
+field-short : (k : Field) (x : List ℕ) → legal k x ≡ true → length (fieldText k x) ≤ most k
 unfolding most
-field-short (sequence octet lo hi) v b h =
-    omega (arith, length-name (value (sequence octet lo hi) v), length-numbers octet (getD v 0 0) (drop 1 v), sequence-at octet lo hi v 0 h .most)
-field-short (sequence quad lo hi) v b h =
-    omega (
-      arith,
-      length-dotted (value (sequence quad lo hi) v) (quads-bound (getD v 0 0) (drop 1 v) (octets-drop 1 v b)),
-      length-numbers quad (getD v 0 0) (drop 1 v),
-      sequence-at quad lo hi v 0 h .most,
-    )
-field-short (integer octet lo hi) v b h = length-decimal-quad (getD v 0 0) (omega (arith, b 0))
-field-short (integer quad lo hi) v b h = length-decimal-quad (number quad v) (number-bound quad v b)
+field-short (sequence octet lo hi) x h = omega (arith, length-name x, within-most lo hi (length x) (and-left _ _ h))
+field-short (sequence quad lo hi) x h =
+    omega (arith, length-dotted x (quads-bound x (and-right (within lo hi (length x)) _ h)), within-most lo hi (length x) (and-left _ _ h))
+field-short (integer w lo hi) x h = length-decimal-quad (getD x 0 0) (number-bound w lo hi x h)
 
 -- each with a space
 mosts : List Field → ℕ
 mosts [] = 0
 mosts (k ∷ ks) = suc (most k) + mosts ks
 
-fields-short : (ks : List Field) (v : List ℕ) → Octets v → faults ks v ≡ none → length (fieldsText ks (values ks v)) ≤ mosts ks
-unfolding fieldsText mosts
-fields-short [] v b h = omega arith
-fields-short (k ∷ ks) v b h =
-    let f : length (fieldText k (value k v)) ≤ most k = field-short k v b (faults-first k ks v h) in
-    let r : length (fieldsText ks (values ks (drop (taken k v) v))) ≤ mosts ks =
-    fields-short ks (drop (taken k v) v) (octets-drop (taken k v) v b) (faults-rest k ks v h) in
-    omega (arith, length-append (fieldText k (value k v)) (fieldsText ks (values ks (drop (taken k v) v))))
+fields-short : (ks : List Field) (xs : List (List ℕ)) → legals ks xs ≡ true → length (fieldsText ks xs) ≤ mosts ks
+unfolding fieldsText mosts legals
+fields-short [] xs h = omega arith
+fields-short (k ∷ ks) [] h = omega arith
+fields-short (k ∷ ks) (x ∷ xs) h =
+    let f : length (fieldText k x) ≤ most k = field-short k x (and-left _ _ h) in
+    let r : length (fieldsText ks xs) ≤ mosts ks = fields-short ks xs (and-right (legal k x) _ h) in
+    omega (arith, length-append (fieldText k x) (fieldsText ks xs))
 
-table-short : (t : Table) → length (tableWord t) + mosts (keyFields t) ≤ 900
-unfolding keyFields mosts most
-table-short Context = omega arith
-table-short Mapping = omega arith
-table-short Access = omega arith
-table-short View = omega arith
+table-short : (o : Operation) (t : Table) → length (tableWord t) + mosts (fieldsOf o t) ≤ 900
+unfolding keyFields rowFields mosts most
+table-short Put Context = omega arith
+table-short Put Mapping = omega arith
+table-short Put Access = omega arith
+table-short Put View = omega arith
+table-short Remove Context = omega arith
+table-short Remove Mapping = omega arith
+table-short Remove Access = omega arith
+table-short Remove View = omega arith
 
-pub length-key : (t : Table) (key : List ℕ) → Octets key → faults (keyFields t) key ≡ none
-    → length (keyText t (values (keyFields t) key)) ≤ 900
-unfolding keyText
-length-key t key b h =
-    omega (arith, length-append (tableWord t) (fieldsText (keyFields t) (values (keyFields t) key)), fields-short (keyFields t) key b h, table-short t)
+pub length-entry : (o : Operation) (t : Table) (xs : List (List ℕ)) → legals (fieldsOf o t) xs ≡ true → length (entryText o t xs) ≤ 900
+unfolding entryText
+length-entry o t xs h =
+    let ks = fieldsOf o t in
+    omega (arith, length-append (tableWord t) (fieldsText ks xs), fields-short ks xs h, table-short o t)

@@ -11,13 +11,14 @@ ghost use lib.ListN.{length, take, drop};
 ghost use Rattle.numbers.specs.Laid.{laid};
 ghost use Rattle.rows.specs.Fields.{fault, faults, value, values};
 ghost use Rattle.rows.specs.Forms.{fieldOf};
-ghost use Rattle.rows.specs.Rows.{keyFields, rowFields};
+ghost use Rattle.rows.specs.Rows.{rowFields};
+ghost use Rattle.edit_rules.specs.Edits.{fieldsOf};
 ghost use Rattle.text_words.specs.Words.{wordsFrom};
 ghost use Rattle.text_values.specs.Texts.{Puts};
 ghost use Rattle.text_fields.specs.RowWords.{Roomy};
 ghost use Rattle.text_rows.specs.EntryWords.{Counts, entrySaid, entryFront, Enters};
 ghost use Rattle.text_rows.specs.FieldText.{fieldText, FieldIn};
-ghost use Rattle.text_rows.specs.RowText.{fieldsText, keyText, Fields};
+ghost use Rattle.text_rows.specs.RowText.{fieldsText, entryText, Fields};
 ghost use Rattle.text_rows.specs.TableWords.{tableWord};
 
 // ---- read from words
@@ -141,12 +142,12 @@ fn put_fields(out: &mut [u8], at: usize, t: Table, n: usize, row: &[u8]) -> usiz
     o
 }
 
-// The key of a table: its bytes are whole, as `rows::judge_key` tells.
-pub fn put_key(out: &mut [u8], at: usize, t: Table, key: &[u8]) -> usize
-    requires legal { ⌜ faults (keyFields t) (now key) ≡ none ⌝ }
-    requires room { ⌜ at + length (keyText t (values (keyFields t) (now key))) ≤ length (now out) ⌝ }
-    ensures { λ r. ⌜ Puts (keyText t (values (keyFields t) (now (key .entry)))) at (now (out .entry)) (now (out .exit)) r ⌝ }
+// The row or the key, as the operation has it, whose bytes are whole.
+pub fn put_entry(out: &mut [u8], at: usize, o: Operation, t: Table, bytes: &[u8]) -> usize
+    requires legal { ⌜ faults (fieldsOf o t) (now bytes) ≡ none ⌝ }
+    requires room { ⌜ at + length (entryText o t (values (fieldsOf o t) (now bytes))) ≤ length (now out) ⌝ }
+    ensures { λ r. ⌜ Puts (entryText o t (values (fieldsOf o t) (now (bytes .entry)))) at (now (out .entry)) (now (out .exit)) r ⌝ }
 {
     let next = put_table(out, at, t);
-    put_fields(out, next, t, rows::key_len(t), key)
+    put_fields(out, next, t, field_count(o, t), bytes)
 }

@@ -33,13 +33,13 @@ put-decimal-requires c κs = let s = c .before .before .before in
 put-octet-requires : tie.Need-put-octet-requires
 put-octet-requires c κs = room (32 ∷ []) _ (counted (c .before .before .before))
 
-put-key-requires : tie.Need-put-key-requires
-put-key-requires c κs = let o = c .before .before .before in (start (o .before .before .before .before) .pre .0, spaced o .fits)
+put-entry-requires : tie.Need-put-entry-requires
+put-entry-requires c κs = let o = c .before .before .before in (start (o .before .before .before .before) .pre .0, spaced o .fits)
 
 returns : tie.Need-returns
-returns c = let k = c .before .before in last _ (spaced (k .before .before .before .before)) (k .put-key .ensures)
+returns c = let k = c .before .before in last _ (spaced (k .before .before .before .before)) (k .put-entry .ensures)
 
 pub put-column-key-spec : {M : Type 1} → statement M
 put-column-key-spec =
     tie.close
-    (tie.spec put-decimal-requires put-octet-requires put-key-requires (λ c. search needs) returns)
+    (tie.spec put-decimal-requires put-octet-requires put-entry-requires (λ c. search needs) returns)

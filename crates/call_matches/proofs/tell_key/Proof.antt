@@ -17,11 +17,11 @@ short c =
     let s = c .before .before in
     key-short (s .args .t) (s .args .key .now) (λ i. omega (arith, c .shared-slice-known .given i)) (s .pre .0)
 
-put-key-requires : tie.Need-put-key-requires
-put-key-requires c κs = let k = c .before in let s = k .before .before in (s .pre .0, omega (arith, short k, s .pre .1))
+put-entry-requires : tie.Need-put-entry-requires
+put-entry-requires c κs = let k = c .before in let s = k .before .before in (s .pre .0, omega (arith, short k, s .pre .1))
 
 returns : tie.Need-returns
-returns c = record { puts = c .before .before .put-key .ensures; short = short (c .before .before .before .before) }
+returns c = record { puts = c .before .before .put-entry .ensures; short = short (c .before .before .before .before) }
 
 pub tell-key-spec : {M : Type 1} → statement M
-tell-key-spec = tie.close (tie.spec put-key-requires (λ c. search needs) returns)
+tell-key-spec = tie.close (tie.spec put-entry-requires (λ c. search needs) returns)

@@ -29,22 +29,22 @@ whole : (c : tie.After-shared-slice-known) → let s = c .before .before in let 
     Onward (typedText (fields s) (a .family-type)) (a .at) (a .out .now) (typedText (fields s) (a .family-type)) (a .at) (a .out .now)
 whole c = begun (omega (arith, short c, c .before .before .pre .1))
 
-abbrev start : tie.After-put-key → tie.Start
+abbrev start : tie.After-put-entry → tie.Start
 start c = c .before .before .before .before
 
-keyed : (c : tie.After-put-key) → let s = start c in let a = s .args in
-    Onward (typedText (fields s) (a .family-type)) (a .at) (a .out .now) (32 ∷ decimalText (a .family-type)) (c .put-key .result) (c .put-key .last .0)
-keyed c = step (keyText View (fields (start c))) _ (whole (c .before .before)) (c .put-key .ensures)
+keyed : (c : tie.After-put-entry) → let s = start c in let a = s .args in
+    Onward (typedText (fields s) (a .family-type)) (a .at) (a .out .now) (32 ∷ decimalText (a .family-type)) (c .put-entry .result) (c .put-entry .last .0)
+keyed c = step (keyText View (fields (start c))) _ (whole (c .before .before)) (c .put-entry .ensures)
 
-abbrev keyed-at : tie.After-put-octet → tie.After-put-key
+abbrev keyed-at : tie.After-put-octet → tie.After-put-entry
 keyed-at o = o .before .before .before .before
 
 spaced : (o : tie.After-put-octet) → let s = start (keyed-at o) in let a = s .args in
     Onward (typedText (fields s) (a .family-type)) (a .at) (a .out .now) (decimalText (a .family-type)) (o .put-octet .result) (o .put-octet .last .0)
 spaced o = step (32 ∷ []) _ (keyed (keyed-at o)) (o .put-octet .ensures)
 
-put-key-requires : tie.Need-put-key-requires
-put-key-requires c κs = let k = c .before in let s = k .before .before in (s .pre .0, room (keyText View (fields s)) _ (whole k))
+put-entry-requires : tie.Need-put-entry-requires
+put-entry-requires c κs = let k = c .before in let s = k .before .before in (s .pre .0, room (keyText View (fields s)) _ (whole k))
 
 put-octet-requires : tie.Need-put-octet-requires
 put-octet-requires c κs = room (32 ∷ []) _ (keyed (c .before .before .before))
@@ -59,4 +59,4 @@ returns c =
     record { puts = last _ (spaced o) (d .put-decimal .ensures); short = short (keyed-at o .before .before) }
 
 pub tell-typed-spec : {M : Type 1} → statement M
-tell-typed-spec = tie.close (tie.spec put-key-requires put-octet-requires put-decimal-requires (λ c. search needs) returns)
+tell-typed-spec = tie.close (tie.spec put-entry-requires put-octet-requires put-decimal-requires (λ c. search needs) returns)
