@@ -7,13 +7,15 @@ use Prim.Native.Nat.{ℕ}
 use Rattle.answers.specs.declared.Fault.the-variants.{OutOfRange}
 use Rattle.image.specs.Store.{held}
 use Rattle.decision_match.specs.Matches.{viewChoice, accessChoice}
+use Rattle.explain_rules.specs.Explanation.{explanation}
 use Rattle.instance_decode.specs.Decoding.{readInstance}
 use Rattle.edits.specs.Does.{Call, Reply, decided, edited, walked, replyNumber, Does}
 use Rattle.text_values.specs.Texts.{decimalText}
-use Rattle.call_verbs.specs.Calls.{Asked, calls, encodes, decodes, images, matchesView, matchesAccess}
+use Rattle.call_verbs.specs.Calls.{Asked, calls, encodes, decodes, images, matchesView, matchesAccess, explains}
 use Rattle.call_answers.specs.Answers.{faultText, instanceText, decodedText, imageTextOf, Told}
 use Rattle.call_matches.specs.Texts.{viewMatchText, accessMatchText}
 use Rattle.call_walks.specs.Texts.{walkText}
+use Rattle.call_explains.specs.Texts.{explanationText}
 
 -- what only tells
 pub record Tells (told found after text : List ℕ) : Type 0 where
@@ -41,6 +43,7 @@ Plays (some images) found after text = Tells (imageTextOf (held found)) found af
 Plays (some (matchesView name variable)) found after text = Tells (viewMatchText (viewChoice (held found) name variable)) found after text
 Plays (some (matchesAccess group context model level)) found after text =
     Tells (accessMatchText (accessChoice (held found) group context model level)) found after text
+Plays (some (explains q)) found after text = Tells (explanationText (explanation (held found) q)) found after text
 
 -- ---- how the code plays it
 

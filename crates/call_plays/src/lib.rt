@@ -43,6 +43,7 @@ pub fn play_call(
         Verb::MatchView => call_tells::match_view(store, slots, bytes, parts, out, at),
         Verb::MatchAccess => call_tells::match_access(store, slots, bytes, parts, out, at),
         Verb::Walk => call_walks::walk(store, slots, bytes, parts, out, at),
+        Verb::Explain => call_explains::explain(store, slots, bytes, parts, out, at),
         Verb::Unknown => call_answers::tell_fault(out, at, Fault::OutOfRange),
     }
 }

@@ -13,8 +13,9 @@ use Rattle.line_fields.specs.Kinds.{Value, valueAt}
 use Rattle.line_fields.specs.Slots.{side, inParts, kindIn, slotIn, Holds}
 use Rattle.line_fields.proofs.RequestSlots.{request-held}
 use Rattle.call_verbs.specs.declared.Verb.{Verb}
-use Rattle.call_verbs.specs.declared.Verb.the-variants.{Decide, Owner, Principal, Encode, Decode, Image, MatchView, MatchAccess, Walk, Unknown}
-use Rattle.call_verbs.specs.Calls.{kindsOf, calls, encodes, decodes, matchesView, matchesAccess, meaning}
+use Rattle.call_verbs.specs.declared.Verb.the-variants.{Decide, Owner, Principal, Encode, Decode, Image, MatchView, MatchAccess, Walk, Explain}
+use Rattle.call_verbs.specs.declared.Verb.the-variants.{Unknown}
+use Rattle.call_verbs.specs.Calls.{kindsOf, calls, encodes, decodes, matchesView, matchesAccess, explains, meaning}
 use Rattle.call_verbs.specs.CallSlots.{askedIn}
 
 same-edit : {o o' : Value} → o ≡ o' → editOf (o .operation) (o .table) (o .parts) ≡ editOf (o' .operation) (o' .table) (o' .parts)
@@ -62,4 +63,5 @@ asked-held Walk slots bytes parts values h =
     same-call walk
     (same-caller (numbered (h 0 (omega arith) .is)) (ap (λ v. v .parts) (h 1 (omega arith) .is)) (numbered (h 2 (omega arith) .is)))
     (ap (λ v. v .parts) (h 3 (omega arith) .is))
+asked-held Explain slots bytes parts values h = ap (λ q. some (explains q)) (request-held slots bytes parts values h)
 asked-held Unknown slots bytes parts values h = refl

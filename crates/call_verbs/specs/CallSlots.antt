@@ -8,8 +8,9 @@ use Rattle.text_rows.specs.declared.Slot.{Slot}
 use Rattle.line_fields.specs.Requests.{requestIn}
 use Rattle.line_fields.specs.Slots.{slotIn, partIn, numberIn}
 use Rattle.call_verbs.specs.declared.Verb.{Verb}
-use Rattle.call_verbs.specs.declared.Verb.the-variants.{Decide, Owner, Principal, Encode, Decode, Image, MatchView, MatchAccess, Walk, Unknown}
-use Rattle.call_verbs.specs.Calls.{Asked, calls, encodes, decodes, images, matchesView, matchesAccess}
+use Rattle.call_verbs.specs.declared.Verb.the-variants.{Decide, Owner, Principal, Encode, Decode, Image, MatchView, MatchAccess, Walk, Explain}
+use Rattle.call_verbs.specs.declared.Verb.the-variants.{Unknown}
+use Rattle.call_verbs.specs.Calls.{Asked, calls, encodes, decodes, images, matchesView, matchesAccess, explains}
 
 abbrev pub editIn : Slot → List ℕ → Edit
 editIn s bytes = editOf (s .operation) (s .table) (partIn s bytes)
@@ -37,4 +38,5 @@ askedIn MatchView ss bytes parts = some (matchesView (partIn (slotIn ss 0) bytes
 askedIn MatchAccess ss bytes parts =
     some (matchesAccess (partIn (slotIn ss 0) bytes) (partIn (slotIn ss 1) bytes) (numberIn (slotIn ss 2) parts) (numberIn (slotIn ss 3) parts))
 askedIn Walk ss bytes parts = some (calls (walkIn ss bytes parts))
+askedIn Explain ss bytes parts = some (explains (requestIn ss bytes parts))
 askedIn Unknown ss bytes parts = none

@@ -1,6 +1,6 @@
 -- A line of the program `trycalls`, read as what it asks for:
 --
---     decide MODEL LEVEL KIND NAME CONTEXT VARIABLE
+--     decide MODEL LEVEL KIND NAME CONTEXT VARIABLE                          explain, with the words of decide
 --     owner EDIT               principal MODEL NAME LEVEL EDIT               walk MODEL NAME LEVEL OID
 --     encode COLUMN KEY        decode OID        image
 --     match view NAME VARIABLE                   match access GROUP CONTEXT MODEL LEVEL
@@ -17,6 +17,7 @@ use Rattle.numbers.specs.Lists.{find}
 use Rattle.numbers.specs.Order.{same}
 use Rattle.rows.specs.declared.Table.{Table}
 use Rattle.rows.specs.declared.Table.the-variants.{Access, View}
+use Rattle.decision_steps.specs.Request.{Request}
 use Rattle.edit_rules.specs.Edits.{Caller, callerOf}
 use Rattle.edits.specs.Does.{Call, ask, owner, by, walk}
 use Rattle.text_words.specs.Words.{longest, words}
@@ -26,11 +27,12 @@ use Rattle.line_fields.specs.declared.Kind.the-variants.{Number, Name, Identifi
 use Rattle.line_fields.specs.Kinds.{Value, valueAt, partsAt, numberAt, editAt, valuesSaid}
 use Rattle.line_fields.specs.Requests.{requestKinds, requestOf}
 use Rattle.call_verbs.specs.declared.Verb.{Verb}
-use Rattle.call_verbs.specs.declared.Verb.the-variants.{Decide, Owner, Principal, Encode, Decode, Image, MatchView, MatchAccess, Walk, Unknown}
+use Rattle.call_verbs.specs.declared.Verb.the-variants.{Decide, Owner, Principal, Encode, Decode, Image, MatchView, MatchAccess, Walk, Explain}
+use Rattle.call_verbs.specs.declared.Verb.the-variants.{Unknown}
 
 -- ---- the words that name what a line asks for
 
--- the last of its words: decide, owner, principal, encode, decode, image, a table's, walk; no word names the unknown
+-- the last of its words: decide, owner, principal, encode, decode, image, a table's, walk, explain; no word names the unknown
 abbrev pub verbWord : Verb → List ℕ
 verbWord Decide = 100 ∷ 101 ∷ 99 ∷ 105 ∷ 100 ∷ 101 ∷ []
 verbWord Owner = 111 ∷ 119 ∷ 110 ∷ 101 ∷ 114 ∷ []
@@ -41,11 +43,12 @@ verbWord Image = 105 ∷ 109 ∷ 97 ∷ 103 ∷ 101 ∷ []
 verbWord MatchView = tableWord View
 verbWord MatchAccess = tableWord Access
 verbWord Walk = 119 ∷ 97 ∷ 108 ∷ 107 ∷ []
+verbWord Explain = 101 ∷ 120 ∷ 112 ∷ 108 ∷ 97 ∷ 105 ∷ 110 ∷ []
 verbWord Unknown = []
 
 -- those of one word
 abbrev pub verbs : List Verb
-verbs = Decide ∷ Owner ∷ Principal ∷ Encode ∷ Decode ∷ Image ∷ Walk ∷ []
+verbs = Decide ∷ Owner ∷ Principal ∷ Encode ∷ Decode ∷ Image ∷ Walk ∷ Explain ∷ []
 
 -- those of two, the first of which is `match`
 abbrev pub matchVerbs : List Verb
@@ -89,10 +92,11 @@ kindsOf Image = []
 kindsOf MatchView = Name ∷ Identifier ∷ []
 kindsOf MatchAccess = Name ∷ Name ∷ Number ∷ Number ∷ []
 kindsOf Walk = Number ∷ Name ∷ Number ∷ Identifier ∷ []
+kindsOf Explain = requestKinds
 kindsOf Unknown = []
 
 -- a call on a store (`edits/specs/Does.antt`), an instance of a table, a column and a key, an identifier that may be one, the image, the row
--- of a view that decides on a variable, the access row that is chosen
+-- of a view that decides on a variable, the access row that is chosen, an answer and the rows behind it
 pub data Asked : Type 0 where
   calls : Call → Asked
   encodes : Table → ℕ → List ℕ → Asked
@@ -100,6 +104,7 @@ pub data Asked : Type 0 where
   images : Asked
   matchesView : (name variable : List ℕ) → Asked
   matchesAccess : (group context : List ℕ) (model level : ℕ) → Asked
+  explains : Request → Asked
 
 -- a principal's model, name and level come first
 abbrev pub callerAt : List Value → Caller
@@ -115,6 +120,7 @@ meaning Image vs = some images
 meaning MatchView vs = some (matchesView (partsAt 0 vs) (partsAt 1 vs))
 meaning MatchAccess vs = some (matchesAccess (partsAt 0 vs) (partsAt 1 vs) (numberAt 2 vs) (numberAt 3 vs))
 meaning Walk vs = some (calls (walk (callerAt vs) (partsAt 3 vs)))
+meaning Explain vs = some (explains (requestOf vs))
 meaning Unknown vs = none
 
 abbrev pub phraseSaid : Phrase → Option Asked

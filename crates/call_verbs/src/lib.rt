@@ -1,4 +1,5 @@
-// What a line may ask for: a call on a store, an instance to encode or decode, the image, or the row that matches. The words in front name it.
+// What a line may ask for: a call on a store, an instance to encode or decode, the image, the row that matches, or an answer explained. The words in front
+// name it.
 use line_fields::Kind;
 use line_fields::MOST_FIELDS;
 use line_fields::REQUEST_FIELDS;
@@ -22,6 +23,7 @@ pub enum Verb {
     MatchView,
     MatchAccess,
     Walk,
+    Explain,
     Unknown,
 }
 
@@ -31,7 +33,10 @@ pub enum Verb {
 fn verb_named(word: &[u8]) -> Verb
     ensures { λ r. ⌜ r ≡ verbNamed verbs (now (word .entry)) ⌝ }
 {
-    match text_words::place_of(word, b"decide owner principal encode decode image walk") {
+    match text_words::place_of(
+        word,
+        b"decide owner principal encode decode image walk explain",
+    ) {
         0 => Verb::Decide,
         1 => Verb::Owner,
         2 => Verb::Principal,
@@ -39,6 +44,7 @@ fn verb_named(word: &[u8]) -> Verb
         4 => Verb::Decode,
         5 => Verb::Image,
         6 => Verb::Walk,
+        7 => Verb::Explain,
         _ => Verb::Unknown,
     }
 }
@@ -141,6 +147,7 @@ pub fn kinds_of(v: Verb) -> [Kind; MOST_FIELDS]
             Kind::Number,
             Kind::Number,
         ],
+        Verb::Explain => line_fields::request_kinds(),
         Verb::Unknown => [Kind::Number; MOST_FIELDS],
     }
 }
@@ -159,6 +166,7 @@ pub fn field_count(v: Verb) -> usize
         Verb::MatchView => 2,
         Verb::MatchAccess => 4,
         Verb::Walk => 4,
+        Verb::Explain => REQUEST_FIELDS,
         Verb::Unknown => 0,
     }
 }

@@ -56,6 +56,11 @@ walk-requires c κs = let e = c .before .before in
     let s = e .before .before .before .before .before .before in
     (rw (e .enum-told9 .given .1) at (s .pre .0), s .pre .1)
 
+explain-requires : tie.Need-explain-requires
+explain-requires c κs = let e = c .before .before in
+    let s = e .before .before .before .before .before .before in
+    (rw (e .enum-told10 .given .1) at (s .pre .0), s .pre .1)
+
 returns : tie.Need-returns
 returns c = let t = c .before .before in
     let d = t .before .before in
@@ -96,7 +101,11 @@ returns-9 c = let t = c .before .before in rw (t .before .before .before .enum-t
 
 returns-10 : tie.Need-returns-10
 unfolding Plays
-returns-10 c = let t = c .before .before in rw (t .before .before .enum-told10 .given .1) (plays-told _ _ (λ only. only) (t .tell-fault .ensures))
+returns-10 c = let t = c .before .before in rw (t .before .before .before .enum-told10 .given .1) (plays-told _ _ (λ only. only) (t .explain .ensures))
+
+returns-11 : tie.Need-returns-11
+unfolding Plays
+returns-11 c = let t = c .before .before in rw (t .before .before .enum-told11 .given .1) (plays-told _ _ (λ only. only) (t .tell-fault .ensures))
 
 pub play-call-spec : {M : Type 1} → statement M
 play-call-spec =
@@ -104,8 +113,8 @@ play-call-spec =
     (tie.spec (λ c. search needs) decide-requires (λ c. search needs) put-decimal-requires (λ c. search needs) edit-as-owner-requires
     (λ c. search needs) put-decimal-requires-2 (λ c. search needs) edit-as-principal-requires (λ c. search needs) put-decimal-requires-3
     (λ c. search needs) encode-requires (λ c. search needs) decode-requires (λ c. search needs) (λ c κs. search needs) (λ c. search needs)
-    match-view-requires (λ c. search needs) match-access-requires (λ c. search needs) walk-requires (λ c. search needs) (λ c κs. search needs)
-    (λ c. search needs) (λ c. search needs) returns (λ c. search needs) (λ c. search needs) returns-2 (λ c. search needs) (λ c. search needs)
-    returns-3 (λ c. search needs) returns-4 (λ c. search needs) returns-5 (λ c. search needs) (λ c. search needs) returns-6 (λ c. search needs)
-    (λ c. search needs) returns-7 (λ c. search needs) (λ c. search needs) returns-8 (λ c. search needs) (λ c. search needs) returns-9
-    (λ c. search needs) returns-10)
+    match-view-requires (λ c. search needs) match-access-requires (λ c. search needs) walk-requires (λ c. search needs) explain-requires
+    (λ c. search needs) (λ c κs. search needs) (λ c. search needs) (λ c. search needs) returns (λ c. search needs) (λ c. search needs) returns-2
+    (λ c. search needs) (λ c. search needs) returns-3 (λ c. search needs) returns-4 (λ c. search needs) returns-5 (λ c. search needs)
+    (λ c. search needs) returns-6 (λ c. search needs) (λ c. search needs) returns-7 (λ c. search needs) (λ c. search needs) returns-8
+    (λ c. search needs) (λ c. search needs) returns-9 (λ c. search needs) (λ c. search needs) returns-10 (λ c. search needs) returns-11)
