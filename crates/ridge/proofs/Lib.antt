@@ -2,3 +2,4 @@
 pub mod Ridge
 pub mod Examples
 pub mod Matches
+pub mod Explanations

@@ -4,7 +4,7 @@ use mathlib.Core.Path.{_≡_}
 use mathlib.Core.List.{List, [], _∷_}
 use mathlib.Core.Option.{none}
 use Prim.Native.Nat.{ℕ}
-use Rattle.rows.specs.Rows.{AccessRow, ViewRow}
+use Rattle.rows.specs.Rows.{MappingRow, AccessRow, ViewRow}
 use Rattle.rows.specs.Tables.{Tables}
 use Rattle.image_judge.specs.Faults.{tablesIn}
 use Rattle.image.specs.Image.{imageFault}
@@ -42,6 +42,15 @@ abbrev pub gone : List ℕ
 gone = 103 ∷ 111 ∷ 110 ∷ 101 ∷ []
 
 -- ---- rows
+
+abbrev mappingRow : (name group : List ℕ) → MappingRow
+mappingRow name group = record { securityModel = 3; securityName = name; groupName = group; storageType = 3; status = 1 }
+
+abbrev pub rowAnn : MappingRow
+rowAnn = mappingRow ann leads
+
+abbrev pub rowCal : MappingRow
+rowCal = mappingRow cal train
 
 abbrev pub rowA : AccessRow
 rowA = record {
@@ -94,10 +103,7 @@ rowExcluded = viewRow base (1 ∷ 3 ∷ 6 ∷ 1 ∷ 2 ∷ 1 ∷ 2 ∷ 2 ∷ 1 �
 abbrev pub ridgeTables : Tables
 ridgeTables = record {
   vacmContextTable = record { contextName = [] } ∷ record { contextName = ridge1 } ∷ [];
-  vacmSecurityToGroupTable =
-      record { securityModel = 3; securityName = ann; groupName = leads; storageType = 3; status = 1 }
-      ∷ record { securityModel = 3; securityName = cal; groupName = train; storageType = 3; status = 1 }
-      ∷ [];
+  vacmSecurityToGroupTable = rowAnn ∷ rowCal ∷ [];
   vacmAccessTable = rowA ∷ rowB ∷ [];
   vacmViewTreeFamilyTable = rowAll ∷ rowIncluded ∷ rowExcluded ∷ [];
 }
