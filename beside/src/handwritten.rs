@@ -10,6 +10,8 @@ use std::slice::from_raw_parts;
 pub const ROOM: usize = 46_456;
 /// The longest key: a view's name and a subtree.
 pub const KEY_MAX: usize = 290;
+/// The longest row: a view's, by its mask and three numbers longer than its key.
+pub const ROW_MAX: usize = 310;
 /// The parts of the longest identifier, and its bytes.
 pub const MOST_PARTS: usize = 128;
 const MOST_BYTES: usize = 4 * MOST_PARTS;
@@ -356,12 +358,17 @@ pub fn is_access_allowed(image: &[u8], request: &Request, variable: &[u8]) -> u3
         return 7;
     }
     // SAFETY: the image was judged, and the request is in range.
-    unsafe { decide(image.as_ptr(), &layout, request, variable) }
+    unsafe { decide(image.as_ptr(), &layout, request, variable, &mut Picked::default()) }
 }
 
 /// The decision over a store.
 #[inline(never)]
 pub fn store_decide(store: &[u8], request: &Request, variable: &[u32]) -> u32 {
+    decide_by(store, request, variable, &mut Picked::default())
+}
+
+#[inline(always)]
+fn decide_by(store: &[u8], request: &Request, variable: &[u32], picked: &mut Picked) -> u32 {
     let mut layout = Layout::new();
     match judge_store(store, &mut layout) {
         0 => {}
@@ -373,7 +380,7 @@ pub fn store_decide(store: &[u8], request: &Request, variable: &[u32]) -> u32 {
     let mut room = [0; MOST_BYTES];
     let variable = spell_variable(&mut room, variable);
     // SAFETY: the store was judged, and the request is in range.
-    unsafe { decide(store.as_ptr(), &layout, request, variable) }
+    unsafe { decide(store.as_ptr(), &layout, request, variable, picked) }
 }
 
 /// A variable in parts of 4 bytes, as a row has its subtree.
@@ -400,30 +407,42 @@ unsafe fn name_at<'a>(at: At) -> &'a [u8] {
     from_raw_parts(at, 1 + *at as usize)
 }
 
+/// Where they end.
+#[inline(always)]
+unsafe fn past(at: At) -> At {
+    at.add(1 + *at as usize)
+}
+
 /// SAFETY: the rows of the layout were judged, and the request is in range.
 #[inline(always)]
-unsafe fn decide(bytes: At, layout: &Layout, request: &Request, variable: &[u8]) -> u32 {
-    match named_view(bytes, layout, request) {
-        Ok(view) => in_view(bytes, layout, view, variable),
+unsafe fn decide(bytes: At, layout: &Layout, request: &Request, variable: &[u8], picked: &mut Picked) -> u32 {
+    match named_view(bytes, layout, request, picked) {
+        Ok(view) => in_view(bytes, layout, view, variable, picked),
         Err(cause) => cause,
     }
 }
 
 /// Steps 1 to 3, and the name of the view for step 4: what is the same for every variable. The error is a cause's number.
 #[inline(always)]
-unsafe fn named_view<'a>(bytes: At, layout: &Layout, request: &Request) -> Result<&'a [u8], u32> {
+unsafe fn named_view<'a>(bytes: At, layout: &Layout, request: &Request, picked: &mut Picked) -> Result<&'a [u8], u32> {
     let mut room = [0; 40];
     if held(bytes, layout, 0, spell(&mut room, &[], request.context)).is_none() {
         return Err(1);
     }
     let key = spell(&mut room, &request.model.to_be_bytes(), request.name);
-    let group = match held(bytes, layout, 1, key) {
-        Some(place) if is_active(bytes, layout, place) => name_at(bytes.add(layout.start(place) + key.len())),
+    let mapping = match held(bytes, layout, 1, key) {
+        Some(place) if is_active(bytes, layout, place) => {
+            let row = bytes.add(layout.start(place));
+            Chosen { row, key_end: row.add(key.len()) }
+        }
         _ => return Err(2),
     };
-    let view = match chosen_access(bytes, layout, group, request.context, request.model, request.level) {
+    picked.mapping = Some(mapping);
+    // a mapping's group stands behind its key
+    picked.access = chosen_access(bytes, layout, name_at(mapping.key_end), request.context, request.model, request.level);
+    let view = match picked.access {
         None => return Err(3),
-        Some(access) => view_name(access, request.kind),
+        Some(access) => name_at(view_at(access, request.kind)),
     };
     if view.len() == 1 {
         return Err(4);
@@ -436,6 +455,14 @@ unsafe fn named_view<'a>(bytes: At, layout: &Layout, request: &Request) -> Resul
 struct Chosen {
     row: At,
     key_end: At,
+}
+
+/// The rows that steps 2, 3 and 5 chose. The compiler leaves them out where nobody looks at them.
+#[derive(Clone, Copy, Default)]
+struct Picked {
+    mapping: Option<Chosen>,
+    access: Option<Chosen>,
+    view: Option<Chosen>,
 }
 
 #[inline(always)]
@@ -475,20 +502,21 @@ unsafe fn chosen_access(bytes: At, layout: &Layout, group: &[u8], context: &[u8]
     chosen
 }
 
-/// The view that an access row names for the kind of a request.
+/// Where an access row names the view for the kind of a request.
 #[inline(always)]
-unsafe fn view_name<'a>(access: Chosen, kind: u32) -> &'a [u8] {
+unsafe fn view_at(access: Chosen, kind: u32) -> At {
     let mut views = access.key_end.add(1);
     for _ in 1..kind {
-        views = views.add(1 + *views as usize);
+        views = past(views);
     }
-    name_at(views)
+    views
 }
 
 #[inline(always)]
-unsafe fn in_view(bytes: At, layout: &Layout, view: &[u8], variable: &[u8]) -> u32 {
+unsafe fn in_view(bytes: At, layout: &Layout, view: &[u8], variable: &[u8], picked: &mut Picked) -> u32 {
     let mut rows = rows_of_view(bytes, layout, view);
-    match deciding_row(bytes, layout, rows.clone(), view, variable) {
+    picked.view = deciding_row(bytes, layout, rows.clone(), view, variable);
+    match picked.view {
         Some(row) if family_type(row) == 1 => 0,
         Some(_) => 5,
         None if rows.any(|i| is_active(bytes, layout, i)) => 5,
@@ -577,12 +605,18 @@ unsafe fn equal(a: At, b: At, length: usize) -> bool {
 
 // ---- the rows that decide, handed back
 
+/// Puts a row's bytes up to `end` at the front of `room`: how many.
+#[inline(always)]
+unsafe fn hand<const MOST: usize>(row: At, end: At, room: &mut [u8; MOST]) -> usize {
+    let length = left(row, end);
+    room[..length].copy_from_slice(from_raw_parts(row, length));
+    length
+}
+
 /// Puts a row's key at the front of `key`: its length.
 #[inline(always)]
 unsafe fn hand_key(chosen: Chosen, key: &mut [u8; KEY_MAX]) -> usize {
-    let length = left(chosen.row, chosen.key_end);
-    key[..length].copy_from_slice(from_raw_parts(chosen.row, length));
-    length
+    hand(chosen.row, chosen.key_end, key)
 }
 
 /// The view row that decides on the variable, by the length of its key and its type; a refusal's number is the error.
@@ -625,6 +659,41 @@ pub fn match_access(store: &[u8], group: &[u8], context: &[u8], model: u32, leve
     unsafe {
         let row = chosen_access(store.as_ptr(), &layout, group, context, model, level);
         Ok(row.map(|row| hand_key(row, key)))
+    }
+}
+
+/// An answer's number, and the length of each row shown.
+#[derive(Clone, Copy, Debug, PartialEq, Eq)]
+pub struct Explained {
+    pub number: u32,
+    pub mapping: Option<usize>,
+    pub access: Option<usize>,
+    pub view: Option<usize>,
+}
+
+/// The decision over a store, and the rows behind it, each whole in its room.
+#[inline(never)]
+pub fn explain(
+    store: &[u8],
+    request: &Request,
+    variable: &[u32],
+    mapping: &mut [u8; ROW_MAX],
+    access: &mut [u8; ROW_MAX],
+    view: &mut [u8; ROW_MAX],
+) -> Explained {
+    let mut picked = Picked::default();
+    let number = decide_by(store, request, variable, &mut picked);
+    // SAFETY: the rows chosen were judged.
+    unsafe {
+        Explained {
+            number,
+            // behind the key a group, storage, status
+            mapping: picked.mapping.map(|chosen| hand(chosen.row, past(chosen.key_end).add(2), mapping)),
+            // the last of the views, storage, status
+            access: picked.access.map(|chosen| hand(chosen.row, past(view_at(chosen, 3)).add(2), access)),
+            // a mask, type, storage, status
+            view: picked.view.map(|chosen| hand(chosen.row, past(chosen.key_end).add(3), view)),
+        }
     }
 }
 
@@ -702,7 +771,8 @@ pub fn walk(
     let bytes = store.as_ptr();
     // SAFETY: the store was judged, and the caller and the identifier are in range.
     unsafe {
-        let view = named_view(bytes, &layout, &Request { model, name, level, kind: 1, context: &[] })?;
+        let request = Request { model, name, level, kind: 1, context: &[] };
+        let view = named_view(bytes, &layout, &request, &mut Picked::default())?;
         let rows = rows_of_view(bytes, &layout, view);
         if !rows.clone().any(|i| is_active(bytes, &layout, i)) {
             return Err(4);
@@ -1060,7 +1130,7 @@ pub fn principal_put(store: &mut [u8], model: u32, name: &[u8], level: u32, tabl
 /// The first cause met at the columns that a put writes, ascending; 0 for none.
 #[inline(always)]
 unsafe fn written_columns(bytes: At, layout: &Layout, request: &Request, table: usize, key: &[u8]) -> u32 {
-    let view = match named_view(bytes, layout, request) {
+    let view = match named_view(bytes, layout, request, &mut Picked::default()) {
         Ok(view) => view,
         Err(cause) => return cause,
     };

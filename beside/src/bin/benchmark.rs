@@ -1,5 +1,6 @@
 //! The proved code beside the hand-written implementation: one process, the same input, both release builds. Prints a table of
 //! ratios (proved / hand-written): the median over batches that alternate, and between which ratios the middle half of them lies.
+//! Where a title says so, the proved decision stands in the place of the hand-written code.
 //!
 //!     benchmark [--batches N] [--milliseconds N] [--only TEXT]
 //!
@@ -59,7 +60,7 @@ mod proved {
     #[cfg(feature = "store")]
     pub mod store {
         use super::Request;
-        use beside::handwritten::{KEY_MAX, MOST_PARTS, ROOM};
+        use beside::handwritten::{KEY_MAX, MOST_PARTS, ROOM, ROW_MAX};
 
         extern "C" {
             fn bench_decide(
@@ -74,6 +75,22 @@ mod proved {
                 context_len: usize,
                 variable: *const u32,
                 variable_len: usize,
+            ) -> u32;
+            fn bench_explain(
+                store: *const u8,
+                store_len: usize,
+                model: u32,
+                name: *const u8,
+                name_len: usize,
+                level: u32,
+                view_type: u32,
+                context: *const u8,
+                context_len: usize,
+                variable: *const u32,
+                variable_len: usize,
+                mapping: *mut [u8; ROW_MAX],
+                access: *mut [u8; ROW_MAX],
+                view: *mut [u8; ROW_MAX],
             ) -> u32;
             fn bench_match_view(
                 store: *const u8,
@@ -138,6 +155,27 @@ mod proved {
                     r.context.len(),
                     variable.as_ptr(),
                     variable.len(),
+                )
+            }
+        }
+
+        pub fn explain(store: &[u8], r: &Request, variable: &[u32], [mapping, access, view]: &mut [[u8; ROW_MAX]; 3]) -> u32 {
+            unsafe {
+                bench_explain(
+                    store.as_ptr(),
+                    store.len(),
+                    r.model,
+                    r.name.as_ptr(),
+                    r.name.len(),
+                    r.level,
+                    r.kind,
+                    r.context.as_ptr(),
+                    r.context.len(),
+                    variable.as_ptr(),
+                    variable.len(),
+                    mapping,
+                    access,
+                    view,
                 )
             }
         }
@@ -414,6 +452,49 @@ fn store_of(image: &[u8]) -> Box<[u8; handwritten::ROOM]> {
     store
 }
 
+/// Explanations beside those by hand; then beside the proved decision on the same request and a copy of the rows behind it.
+#[cfg(feature = "store")]
+fn explain_rows(bench: &mut Bench) {
+    use handwritten::ROW_MAX;
+    use proved::store;
+
+    let by_hand = |lent: &[u8], request: &handwritten::Request, variable: &[u32], [mapping, access, view]: &mut [[u8; ROW_MAX]; 3]| {
+        handwritten::explain(lent, request, variable, mapping, access, view)
+    };
+    for asked in asked() {
+        let lent = store_of(&asked.image);
+        let request = asked.request();
+        let (mut a, mut b) = ([[0; ROW_MAX]; 3], [[0; ROW_MAX]; 3]);
+        bench.row(
+            &format!("explanation, {}", asked.title),
+            || u64::from(store::explain(black_box(&lent[..]), black_box(&request), black_box(&asked.variable), black_box(&mut a))),
+            || u64::from(by_hand(black_box(&lent[..]), black_box(&request), black_box(&asked.variable), black_box(&mut b)).number),
+        );
+        bench.differ |= a != b;
+    }
+    // the first two show a row of each table
+    for asked in &asked()[..2] {
+        let lent = store_of(&asked.image);
+        let request = asked.request();
+        let mut rows = [[0; ROW_MAX]; 3];
+        let told = by_hand(&lent[..], &request, &asked.variable, &mut rows);
+        let lengths = [told.mapping, told.access, told.view].map(|length| length.expect("a row of each table"));
+        let (mut a, mut b) = ([[0; ROW_MAX]; 3], [[0; ROW_MAX]; 3]);
+        bench.row(
+            &format!("explanation beside the decision and the copy of its rows, {}", asked.title),
+            || u64::from(store::explain(black_box(&lent[..]), black_box(&request), black_box(&asked.variable), black_box(&mut a))),
+            || {
+                let number = store::decide(black_box(&lent[..]), black_box(&request), black_box(&asked.variable));
+                for ((room, row), length) in b.iter_mut().zip(&rows).zip(lengths) {
+                    black_box(room)[..length].copy_from_slice(&black_box(row)[..length]);
+                }
+                u64::from(number)
+            },
+        );
+        bench.differ |= a != b;
+    }
+}
+
 #[cfg(feature = "store")]
 fn match_rows(bench: &mut Bench) {
     use handwritten::KEY_MAX;
@@ -660,6 +741,7 @@ fn main() -> ExitCode {
         match_rows(&mut bench);
         walk_rows(&mut bench);
         principal_rows(&mut bench);
+        explain_rows(&mut bench);
     }
     println!();
     println!("{} batches of {} ms of processor time on each side, in turn.", bench.batches, bench.nanoseconds / 1_000_000);

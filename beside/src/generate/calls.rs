@@ -1,4 +1,4 @@
-//! Calls of `trycalls` on the tables as they stand: edits of all kinds, decisions, matches, instances.
+//! Calls of `trycalls` on the tables as they stand: edits of all kinds, decisions, explanations, matches, instances.
 
 use super::matches::{match_access, match_view};
 use super::requests::{long_name, principal, request, AROUND, MODELS_AROUND};
@@ -11,11 +11,12 @@ use crate::reference::rows::*;
 use crate::reference::tables::Tables;
 
 pub fn call(random: &mut Random, world: &World, tables: &Tables) -> Call {
-    match random.below(24) {
+    match random.below(27) {
         0..=6 => Call::Owner(edit(random, world, tables)),
         7..=12 => principal_call(random, world, tables),
         13..=16 => Call::Decide(request(random, world, tables)),
-        17 => {
+        17..=19 => Call::Explain(request(random, world, tables)),
+        20 => {
             let table = table(random);
             let mut key = held_key(random, world, tables, table);
             if random.chance(20) {
@@ -23,8 +24,8 @@ pub fn call(random: &mut Random, world: &World, tables: &Tables) -> Call {
             }
             Call::Encode(column(random, table), key)
         }
-        18 | 19 => match_view(random, world, tables),
-        20 | 21 => match_access(random, world, tables),
+        21 | 22 => match_view(random, world, tables),
+        23 | 24 => match_access(random, world, tables),
         _ => Call::Decode(instance_near(random, world, tables)),
     }
 }

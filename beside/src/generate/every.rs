@@ -1,5 +1,6 @@
-//! Every case of a small kind: each two access rows under step 3, each two view rows under step 5, each storage and
-//! each set of columns under an edit, each field about the ends of its range, each identifier about an instance.
+//! Every case of a small kind: each two access rows under step 3, each two view rows under step 5, the rows that come near those
+//! behind an answer, each storage and each set of columns under an edit, each field about the ends of its range, each identifier
+//! about an instance.
 
 use super::calls::with_key;
 use super::world::any_column;
@@ -118,6 +119,98 @@ pub fn step_five() -> Vec<Case> {
 /// What a request of `step_five` comes down to at that step.
 pub fn view_match(request: &Request) -> Call {
     Call::MatchView { name: "v".into(), variable: request.variable.clone() }
+}
+
+/// Requests beside rows that come near those behind the answer and must not be shown; and the longest rows, shown.
+pub fn explanations() -> Vec<Case> {
+    beside_access_rows().into_iter().chain(beside_view_rows()).chain([longest_rows()]).collect()
+}
+
+/// An access row and beside it, each alone and all together, rows that lose to it and rows that would win and do not count; the same
+/// without it. Ann's mapping is to the group, out of service, or to another group. The row names no view to write and one without active
+/// rows to be notified of.
+fn beside_access_rows() -> Vec<Case> {
+    let chosen = Access { write: "".into(), notify: "idle".into(), ..access("a", 3, 2, 2, "in") };
+    let beside = [
+        // lose by model, by prefix and by level
+        access("ab", 0, 2, 2, "out"),
+        access("", 3, 2, 2, "out"),
+        access("a", 3, 1, 2, "out"),
+        // would win if in service, of the group, of the model, at the level, in the context
+        Access { status: 2, ..access("ab", 3, 2, 2, "out") },
+        Access { group: "h".into(), ..access("ab", 3, 2, 2, "out") },
+        access("ab", 5, 2, 2, "out"),
+        access("ab", 3, 3, 2, "out"),
+        access("ab", 3, 1, 1, "out"),
+        access("bc", 3, 2, 2, "out"),
+    ];
+    let mut sets: Vec<Vec<Access>> = beside.iter().map(|row| vec![row.clone()]).collect();
+    sets.extend([Vec::new(), beside.to_vec()]);
+    sets.extend(sets.clone().into_iter().map(|set| [vec![chosen.clone()], set].concat()));
+
+    let mut requests = vec![read(3, 4, "ab", vec![1]), Request { name: "bob".into(), ..read(3, 2, "ab", vec![1]) }];
+    for context in ["", "ab", "abc", "none"] {
+        for model in [3, 4] {
+            for level in 1..=3 {
+                requests.extend((1..=3).map(|kind| Request { kind, ..read(model, level, context, vec![1]) }));
+            }
+        }
+    }
+    let mut cases = Vec::new();
+    for set in sets {
+        for (group, status) in [("g", 1), ("g", 2), ("h", 1)] {
+            let mut tables = base(&["", "ab", "abc"]);
+            tables.put(Row::Mapping(Mapping { model: 3, name: "ann".into(), group: group.into(), storage: 3, status }));
+            for row in &set {
+                tables.put(Row::Access(row.clone()));
+            }
+            tables.put(Row::View(view("in", vec![1], vec![], 1, 1)));
+            tables.put(Row::View(view("out", vec![1], vec![], 2, 1)));
+            tables.put(Row::View(view("idle", vec![1], vec![], 1, 2)));
+            cases.push(Case { tables, requests: requests.clone() });
+        }
+    }
+    cases
+}
+
+/// Each set of these view rows, under variables that some of them match or none.
+fn beside_view_rows() -> Vec<Case> {
+    let rows = [
+        view("v", vec![1], vec![], 1, 1),
+        // longer; at equal length, greater
+        view("v", vec![1, 1], vec![], 2, 1),
+        view("v", vec![1, 2], vec![0x80], 1, 1),
+        // longer still, and out of service or of another view
+        view("v", vec![1, 1, 1], vec![], 2, 2),
+        view("w", vec![1, 1, 1], vec![], 2, 1),
+        view("v", vec![2], vec![], 1, 1),
+    ];
+    let variables = [vec![1], vec![1, 1], vec![1, 1, 1], vec![1, 1, 1, 1], vec![1, 3], vec![2], vec![3]];
+    let requests: Vec<Request> = variables.into_iter().map(|variable| read(3, 1, "", variable)).collect();
+    let mut cases = Vec::new();
+    for bits in 0..1u32 << rows.len() {
+        let mut tables = base(&[""]);
+        tables.put(Row::Access(access("", 0, 1, 1, "v")));
+        for (_, row) in rows.iter().enumerate().filter(|(i, _)| bits >> i & 1 == 1) {
+            tables.put(Row::View(row.clone()));
+        }
+        cases.push(Case { tables, requests: requests.clone() });
+    }
+    cases
+}
+
+/// One row of each table, with every field at its greatest length, under variables about the subtree's length and the greatest.
+fn longest_rows() -> Case {
+    let (model, name) = (LARGEST_MODEL, vec![0xff; NAME_LIMIT]);
+    let [group, prefix, read, write, notify] = [(); 5].map(|_| name.clone());
+    let mut tables = Tables::default();
+    tables.put(Row::Context(Context { name: name.clone() }));
+    tables.put(Row::Mapping(Mapping { model, name: name.clone(), group: name.clone(), storage: 3, status: 1 }));
+    tables.put(Row::Access(Access { group, prefix, read, write, notify, ..access("", model, 3, 1, "") }));
+    tables.put(Row::View(View { name: name.clone(), ..view("", vec![u32::MAX; SUBTREE_LIMIT], vec![0xff; MASK_LIMIT], 1, 1) }));
+    let lengths = [SUBTREE_LIMIT - 1, SUBTREE_LIMIT, SUBTREE_LIMIT + 1, VARIABLE_LIMIT];
+    let request = |length| Request { model, name: name.clone(), level: 3, kind: 3, context: name.clone(), variable: vec![u32::MAX; length] };
+    Case { tables, requests: lengths.map(request).to_vec() }
 }
 
 /// Tables where Ann, under model 3 at level 1, may edit every row.
@@ -306,7 +399,9 @@ fn rows() -> Vec<Row> {
 /// Every call with every field about the ends of its range.
 pub fn ranges() -> (Tables, Vec<Call>) {
     let ann = ann();
-    let mut calls: Vec<Call> = requests().into_iter().map(Call::Decide).chain(matches()).collect();
+    let mut calls: Vec<Call> = requests().into_iter().map(Call::Decide).collect();
+    calls.extend(requests().into_iter().map(Call::Explain));
+    calls.extend(matches());
     for row in rows() {
         let key = row.key();
         calls.push(Call::Owner(Edit::Put(row.clone())));

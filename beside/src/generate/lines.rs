@@ -22,7 +22,7 @@ pub fn respelt(random: &mut Random, line: &str) -> String {
 fn hex_words(line: &str) -> Vec<usize> {
     let words: Vec<&str> = line.split(' ').collect();
     let mut hex = match words[0] {
-        "decide" => vec![4, 5],
+        "decide" | "explain" => vec![4, 5],
         "principal" | "walk" => vec![2],
         "owner" | "encode" | "decode" | "match" | "image" => vec![],
         _ => vec![3, 4],

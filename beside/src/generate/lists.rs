@@ -43,9 +43,10 @@ impl Circle {
         self.members.iter().any(|member| member.0 == model && member.1 == *name)
     }
 
+    /// Document 01's lists have no explanations; a member's shows rows of the circle alone, so it is compared like a decision.
     pub fn is_shared(&self, call: &Call) -> bool {
         match call {
-            Call::Decide(request) => self.has_member(request.model, &request.name),
+            Call::Decide(request) | Call::Explain(request) => self.has_member(request.model, &request.name),
             Call::Principal(caller, _) | Call::Walk(caller, _) => self.has_member(caller.model, &caller.name),
             Call::Owner(edit) => self.has_key(&edit.key()),
             _ => false,
@@ -217,7 +218,11 @@ fn shared_call(random: &mut Random, world: &World, circle: &Circle, guide: &Tabl
             let mut request = request(random, world, guide);
             request.model = model;
             request.name = name;
-            Call::Decide(request)
+            if random.chance(30) {
+                Call::Explain(request)
+            } else {
+                Call::Decide(request)
+            }
         }
         4..=6 => Call::Principal(Caller { model, name, level }, circle_edit(random, world, circle, guide)),
         _ => Call::Owner(circle_edit(random, world, circle, guide)),
@@ -264,9 +269,10 @@ fn other_call(random: &mut Random, world: &World, circle: &Circle, tables: &Tabl
             return Call::Owner(Edit::Put(row));
         }
     }
-    match random.below(3) {
-        0 => Call::Decide(request(random, world, tables)),
-        1 => Call::Owner(edit(random, world, tables)),
+    match random.below(7) {
+        0 => Call::Explain(request(random, world, tables)),
+        1 | 2 => Call::Decide(request(random, world, tables)),
+        3 | 4 => Call::Owner(edit(random, world, tables)),
         _ => principal_call(random, world, tables),
     }
 }

@@ -1,4 +1,4 @@
-//! The decision: RFC 3415, section 3.2, step by step.
+//! The decision: RFC 3415, section 3.2, step by step; and the rows behind it.
 
 use super::answers::*;
 use super::rows::*;
@@ -28,18 +28,44 @@ impl Request {
     }
 }
 
+/// An answer's number, and the rows that steps 2, 3 and 5 picked, as far as the steps got.
+#[derive(Clone, Debug, Default, PartialEq, Eq)]
+pub struct Explanation<'a> {
+    pub number: Number,
+    pub mapping: Option<&'a Mapping>,
+    pub access: Option<&'a Access>,
+    pub view: Option<&'a View>,
+}
+
+impl Explanation<'_> {
+    /// In the order of the steps.
+    pub fn rows(&self) -> [Option<Row>; 3] {
+        [self.mapping.cloned().map(Row::Mapping), self.access.cloned().map(Row::Access), self.view.cloned().map(Row::View)]
+    }
+}
+
 /// The answer's number: 7, a cause, or 0 for allowed.
 pub fn decide(tables: &Tables, request: &Request) -> Number {
+    explain(tables, request).number
+}
+
+/// The decision with the rows behind it. The view row is the one that decides, whatever its type.
+pub fn explain<'a>(tables: &'a Tables, request: &Request) -> Explanation<'a> {
     if !request.legal() {
-        return OUT_OF_RANGE;
+        return Explanation { number: OUT_OF_RANGE, ..Explanation::default() };
     }
-    match view_of(tables, request) {
+    let mut told = Explanation::default();
+    told.number = match picked_view(tables, request, &mut told) {
         Err(cause) => cause,
-        Ok(view) => match deciding_row(tables, &view, &request.variable) {
-            Some(row) if row.kind == 1 => SUCCESS,
-            _ => NOT_IN_VIEW,
-        },
-    }
+        Ok(view) => {
+            told.view = deciding_row(tables, view, &request.variable);
+            match told.view {
+                Some(row) if row.kind == 1 => SUCCESS,
+                _ => NOT_IN_VIEW,
+            }
+        }
+    };
+    told
 }
 
 /// The view row that step 5 decides by, whatever its type.
@@ -60,15 +86,21 @@ pub fn match_access<'a>(tables: &'a Tables, group: &[u8], context: &[u8], model:
 
 /// Steps 1 to 4: the name of the view that the variable is looked up in.
 pub fn view_of(tables: &Tables, request: &Request) -> Result<Name, Number> {
+    picked_view(tables, request, &mut Explanation::default()).cloned()
+}
+
+/// Steps 1 to 4, with the rows picked on the way.
+fn picked_view<'a>(tables: &'a Tables, request: &Request, picked: &mut Explanation<'a>) -> Result<&'a Name, Number> {
     if !tables.contexts.iter().any(|row| row.name == request.context) {
         return Err(NO_SUCH_CONTEXT);
     }
-    let mapping = tables.mappings.iter().find(|row| row.status == 1 && row.model == request.model && row.name == request.name);
-    let group = match mapping {
+    picked.mapping = tables.mappings.iter().find(|row| row.status == 1 && row.model == request.model && row.name == request.name);
+    let group = match picked.mapping {
         Some(row) => &row.group,
         None => return Err(NO_GROUP_NAME),
     };
-    let access = match chosen_access(tables, group, &request.context, request.model, request.level) {
+    picked.access = chosen_access(tables, group, &request.context, request.model, request.level);
+    let access = match picked.access {
         Some(row) => row,
         None => return Err(NO_ACCESS_ENTRY),
     };
@@ -80,7 +112,7 @@ pub fn view_of(tables: &Tables, request: &Request) -> Result<Name, Number> {
     if view.is_empty() || !tables.views.iter().any(|row| row.status == 1 && row.name == *view) {
         return Err(NO_SUCH_VIEW);
     }
-    Ok(view.clone())
+    Ok(view)
 }
 
 /// Step 3: the candidates, then own model before any, then the longest prefix, then the highest level.

@@ -1,7 +1,7 @@
 //! The programs `tryreq` and `trycalls`: from the bytes of `tables.bin` and of standard input to those of standard output.
 
 use super::answers::*;
-use super::decision::{decide, match_access, match_view, Request};
+use super::decision::{decide, explain, match_access, match_view, Explanation, Request};
 use super::edits::{owner_edit, principal_edit, Caller, Edit};
 use super::image;
 use super::instance;
@@ -58,6 +58,7 @@ pub fn lines_of(stdin: &[u8]) -> Vec<&[u8]> {
 #[derive(Clone, Debug, PartialEq, Eq)]
 pub enum Call {
     Decide(Request),
+    Explain(Request),
     Owner(Edit),
     Principal(Caller, Edit),
     Encode(u32, Key),
@@ -71,6 +72,7 @@ pub enum Call {
 pub fn answer(tables: &mut Tables, call: &Call) -> String {
     match call {
         Call::Decide(request) => decide(tables, request).to_string(),
+        Call::Explain(request) => explanation_text(&explain(tables, request)),
         Call::Owner(edit) => owner_edit(tables, edit).to_string(),
         Call::Principal(caller, edit) => principal_edit(tables, caller, edit).to_string(),
         Call::Encode(column, key) => match instance::encode(*column, key) {
@@ -110,6 +112,7 @@ pub fn call_of(line: &[u8]) -> Option<Call> {
     let mut words = Words::of(line);
     let call = match words.next()? {
         b"decide" => Call::Decide(words.request()?),
+        b"explain" => Call::Explain(words.request()?),
         b"owner" => Call::Owner(words.edit()?),
         b"principal" => Call::Principal(words.caller()?, words.edit()?),
         b"encode" => Call::Encode(words.number()?, words.key()?),
@@ -314,7 +317,13 @@ pub fn row_text(row: &Row) -> String {
     }
 }
 
-/// The line of `tryreq`, and of `trycalls` after the word `decide`.
+/// The number, then the rows shown.
+fn explanation_text(explanation: &Explanation) -> String {
+    let rows = explanation.rows().into_iter().flatten().map(|row| row_text(&row));
+    [explanation.number.to_string()].into_iter().chain(rows).collect::<Vec<String>>().join(" ")
+}
+
+/// The line of `tryreq`, and of `trycalls` after the words `decide` and `explain`.
 pub fn request_text(request: &Request) -> String {
     format!(
         "{} {} {} {} {} {}",
@@ -330,6 +339,7 @@ pub fn request_text(request: &Request) -> String {
 pub fn call_text(call: &Call) -> String {
     match call {
         Call::Decide(request) => format!("decide {}", request_text(request)),
+        Call::Explain(request) => format!("explain {}", request_text(request)),
         Call::Owner(edit) => format!("owner {}", edit_text(edit)),
         Call::Principal(caller, edit) => format!("principal {} {}", caller_text(caller), edit_text(edit)),
         Call::Encode(column, key) => format!("encode {} {}", column, key_text(key)),

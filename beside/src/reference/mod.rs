@@ -14,6 +14,8 @@ pub mod walk;
 #[cfg(test)]
 mod examples;
 #[cfg(test)]
+mod explanations;
+#[cfg(test)]
 mod round_trips;
 #[cfg(test)]
 mod walks_to_the_end;

@@ -3,14 +3,14 @@
 use crate::tally::Tally;
 use beside::generate::calls::{edit, principal_call};
 use beside::generate::damage::damaged;
-use beside::generate::every;
+use beside::generate::every::{self, Case};
 use beside::generate::matches;
 use beside::generate::requests::request;
 use beside::generate::walks::{grant_reading, ridge_walks, walk};
 use beside::generate::world::{tables, World};
 use beside::handwritten;
 use beside::random::Random;
-use beside::reference::decision::{decide, match_access, match_view};
+use beside::reference::decision::{decide, explain, match_access, match_view, Explanation, Request};
 use beside::reference::edits::{owner_edit, principal_edit, Caller, Edit};
 use beside::reference::image::{self, AgentRequest};
 use beside::reference::lines::{call_text, Call};
@@ -23,7 +23,12 @@ pub fn call(image: &[u8], r: &AgentRequest) -> u32 {
     handwritten::is_access_allowed(image, &request, &r.variable)
 }
 
-/// The hand-written edits on a store, beside the reference's on its tables; after each a decision, both matches and a principal's put.
+fn lent(r: &Request) -> handwritten::Request<'_> {
+    handwritten::Request { model: r.model, name: &r.name, level: r.level, kind: r.kind, context: &r.context }
+}
+
+/// The hand-written edits on a store, beside the reference's on its tables; after each a decision, its explanation, both matches and a
+/// principal's put.
 pub fn on_a_store(tally: &mut Tally, random: &mut Random, rounds: usize) {
     for _ in 0..rounds {
         let world = World::any(random);
@@ -63,13 +68,13 @@ pub fn on_a_store(tally: &mut Tally, random: &mut Random, rounds: usize) {
             let same = got == expected && written == image.len() as u64 && out[..image.len()] == image[..];
             tally.check(same, || format!("handwritten: {edit:?} is {got}, not {expected}, or the rows differ"));
             let asked = request(random, &world, &held);
-            let lent = handwritten::Request { model: asked.model, name: &asked.name, level: asked.level, kind: asked.kind, context: &asked.context };
-            let got = handwritten::store_decide(&store, &lent, &asked.variable);
+            let got = handwritten::store_decide(&store, &lent(&asked), &asked.variable);
             let expected = decide(&held, &asked);
             tally.check(got == expected, || format!("handwritten: {asked:?} is {got}, not {expected}"));
             if got != expected {
                 return;
             }
+            check_explanation(tally, random, &store, Ok(&held), &asked);
             for asked in [matches::match_view(random, &world, &held), matches::match_access(random, &world, &held)] {
                 check_match(tally, random, &store, &held, &asked);
             }
@@ -161,6 +166,59 @@ fn match_place(asked: &Call, expected: &Match) -> String {
     format!("{call}: {told}")
 }
 
+/// The hand-written explanation beside the reference's: beside rows that must not be shown, about every range, on random stores and on
+/// damaged ones.
+pub fn explanations(tally: &mut Tally, random: &mut Random, rounds: usize) {
+    let ranges = Case { tables: every::ranges().0, requests: every::requests() };
+    for case in every::explanations().into_iter().chain(every::step_three()).chain(every::step_five()).chain([ranges]) {
+        let store = store_of(random, &image::write(&case.tables));
+        for asked in &case.requests {
+            check_explanation(tally, random, &store, Ok(&case.tables), asked);
+        }
+    }
+    for _ in 0..10 * rounds {
+        let world = World::any(random);
+        let held = tables(random, &world);
+        let bytes = image::write(&held);
+        let store = store_of(random, &bytes);
+        for _ in 0..20 {
+            let asked = request(random, &world, &held);
+            check_explanation(tally, random, &store, Ok(&held), &asked);
+        }
+        let damaged = damaged(random, &bytes);
+        for unsound in unsound(random, &store, &damaged) {
+            let asked = request(random, &world, &held);
+            check_explanation(tally, random, &unsound, image::held(&unsound).as_ref(), &asked);
+        }
+    }
+}
+
+/// An explanation and its lent rooms, each of which has its row at its front and is otherwise as found.
+fn check_explanation(tally: &mut Tally, random: &mut Random, store: &[u8], held: Result<&Tables, &u32>, asked: &Request) {
+    let expected = match held {
+        Ok(tables) => explain(tables, asked),
+        Err(number) => Explanation { number: *number, ..Explanation::default() },
+    };
+    let rows = expected.rows().map(|row| row.map(|row| image::row_bytes(&row)));
+    let mut rooms = [(); 3].map(|_| [random.word() as u8; handwritten::ROW_MAX]);
+    let mut expected_rooms = rooms;
+    for (room, row) in expected_rooms.iter_mut().zip(&rows) {
+        let bytes = row.as_deref().unwrap_or_default();
+        room[..bytes.len()].copy_from_slice(bytes);
+    }
+    let lengths = rows.map(|row| row.map(|bytes| bytes.len()));
+    let [mapping, access, view] = &mut rooms;
+    let got = handwritten::explain(store, &lent(asked), &asked.variable, mapping, access, view);
+    let told = match (expected.number, expected.view) {
+        (5, Some(_)) => "5, excluded".to_string(),
+        (5, None) => "5, none matches".to_string(),
+        (number, _) => number.to_string(),
+    };
+    tally.meet("handwritten", format!("explanation: {told}"));
+    let same = got.number == expected.number && [got.mapping, got.access, got.view] == lengths && rooms == expected_rooms;
+    tally.check(same, || format!("handwritten: {asked:?} is explained by {got:?}, not by {expected:?}, or the lent rooms differ"));
+}
+
 /// The hand-written walk beside the reference's: from about every instance, to the end, on random stores and on damaged ones.
 pub fn walks(tally: &mut Tally, random: &mut Random, rounds: usize) {
     for (held, calls) in every::walks().into_iter().chain([every::walk_ranges()]) {
@@ -200,10 +258,15 @@ fn some_walks(tally: &mut Tally, random: &mut Random) {
         check_walk(tally, random, &store, &asked);
     }
     let damaged = damaged(random, &bytes);
-    for unsound in [store[1..].to_vec(), [&store[..], &[0]].concat(), store_of(random, &damaged)] {
+    for unsound in unsound(random, &store, &damaged) {
         let asked = walk(random, &world, &held, &[]);
         check_walk(tally, random, &unsound, &asked);
     }
+}
+
+/// Room a byte short, room a byte over, and a store of a damaged image.
+fn unsound(random: &mut Random, store: &[u8], damaged: &[u8]) -> [Vec<u8>; 3] {
+    [store[1..].to_vec(), [store, &[0]].concat(), store_of(random, damaged)]
 }
 
 /// An image, or as much of it as there is room for, and anything behind it.

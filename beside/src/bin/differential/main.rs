@@ -5,6 +5,7 @@
 
 mod agent;
 mod by_hand;
+mod explanations;
 mod programs;
 mod shrink;
 mod tally;
@@ -59,6 +60,8 @@ fn settings() -> Result<Settings, String> {
 
 const CAUSES: &[&str] = &["0", "1", "2", "3", "4", "5", "7"];
 
+const EXPLAINED: &[&str] = &["0", "1", "2", "3", "4", "5, excluded", "5, none matches", "7"];
+
 const PAIRS: &[(&str, &[&str])] =
     &[("pairs of lists of demand 3, from fresh stores", &["alike"]), ("pairs of lists of demand 3, from stores whose circles agree", &["alike"])];
 
@@ -95,6 +98,9 @@ fn program_part(tally: &mut Tally, settings: &Settings, name: &'static str) -> R
                 name,
                 &[
                     ("decide", CAUSES),
+                    ("explain", EXPLAINED),
+                    ("explain, a candidate lost by its", &["model", "prefix", "level", "length", "order"]),
+                    ("explain, would be shown if active", &["mapping", "access", "view"]),
                     ("owner put", &["0", "7", "9"]),
                     ("owner remove", &["0", "7", "10"]),
                     ("principal put", &["0", "1", "2", "3", "4", "5", "7", "9", "11", "12"]),
@@ -119,6 +125,7 @@ fn call_part(tally: &mut Tally, settings: &Settings, name: &'static str) -> Resu
     let mut random = Random::new(settings.seed);
     if name == "handwritten" {
         by_hand::on_a_store(tally, &mut random, settings.rounds);
+        by_hand::explanations(tally, &mut random, settings.rounds);
         by_hand::walks(tally, &mut random, settings.rounds);
         tally.require(
             name,
@@ -126,6 +133,8 @@ fn call_part(tally: &mut Tally, settings: &Settings, name: &'static str) -> Resu
                 ("match view", &["included", "excluded", "none", "6", "7"]),
                 ("match access", &["own model", "model 0", "none", "6", "7"]),
                 ("principal's put", &["0", "1", "2", "3", "4", "5", "6", "7", "9", "11", "12"]),
+                ("explanation", EXPLAINED),
+                ("explanation", &["6"]),
                 ("walk", &["context", "mapping", "access", "view", "1", "2", "3", "4", "6", "7", "17"]),
             ],
         );

@@ -182,7 +182,8 @@ fn count_places(tally: &mut Tally, part: &'static str, tables: &[u8], stdin: &[u
     }
 }
 
-/// The answer's first word; where a match tells a row, what kind of row; where a walk tells an instance, of which table.
+/// The answer's first word; where a match tells a row, what kind of row; where a walk tells an instance, of which table; where an
+/// explanation tells notInView, by what.
 pub fn answer_kind(answer: &str) -> &str {
     let words: Vec<&str> = answer.split(' ').collect();
     match words[..] {
@@ -191,6 +192,8 @@ pub fn answer_kind(answer: &str) -> &str {
         ["view", .., "2"] => "excluded",
         ["access", _, _, "0", _] => "model 0",
         ["access", ..] => "own model",
+        ["5", "mapping", .., "view", _, _, _, "2", _, _] => "5, excluded",
+        ["5", "mapping", ..] => "5, none matches",
         [word, ..] => word,
         [] => "",
     }
@@ -200,6 +203,7 @@ fn call_place(line: &[u8]) -> &'static str {
     match call_of(line) {
         None => "malformed line",
         Some(Call::Decide(_)) => "decide",
+        Some(Call::Explain(_)) => "explain",
         Some(Call::Owner(Edit::Put(_))) => "owner put",
         Some(Call::Owner(Edit::Remove(_))) => "owner remove",
         Some(Call::Principal(_, Edit::Put(_))) => "principal put",

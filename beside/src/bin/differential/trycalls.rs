@@ -1,6 +1,7 @@
-//! The part trycalls: lists of calls, edits into every table up to its limit and past it, the rows that step 3 and step 5 choose, and
-//! pairs of lists for demand 3.
+//! The part trycalls: lists of calls, edits into every table up to its limit and past it, the rows that step 3 and step 5 choose,
+//! explanations, and pairs of lists for demand 3.
 
+use crate::explanations::{self, explained};
 use crate::programs::{answer_kind, answers, compare, Input, Program};
 use crate::tally::Tally;
 use crate::tryreq::{line_ends, spelt, P12};
@@ -28,7 +29,9 @@ pub fn run(tally: &mut Tally, random: &mut Random, program: &mut Program, rounds
     for tables in [Some(&P12[..]), Some(&FRESH[..]), Some(&ridge[..]), Some(&b""[..]), None] {
         compare(tally, program, tables, &Input::texts(example));
     }
-    compare(tally, program, Some(&ridge), &Input::texts(ridge::MATCHES.iter().map(|(line, _)| *line)));
+    for lines in [ridge::MATCHES, ridge::EXPLANATIONS] {
+        compare(tally, program, Some(&ridge), &Input::texts(lines.iter().map(|(line, _)| *line)));
+    }
     line_ends(tally, program, &ridge, "encode 5 mapping 3 616e6e");
     line_ends(tally, program, &ridge, "owner put mapping 3 616e6e 6c65616473 3 1");
     for line in FORMS {
@@ -46,6 +49,7 @@ pub fn run(tally: &mut Tally, random: &mut Random, program: &mut Program, rounds
         matches(tally, program, random.pick(&step_three), access_match);
         matches(tally, program, random.pick(&step_five), view_match);
     }
+    explanations::run(tally, random, program, rounds);
     let every = every_damage(&ridge);
     for _ in 0..10 * rounds {
         compare(tally, program, Some(&every[random.below(every.len())]), &Input::of(vec![image_line()]));
@@ -80,14 +84,17 @@ fn some_columns(tally: &mut Tally, program: &mut Program) {
     }
 }
 
+/// What the requests of a case come down to at a step, and the requests explained.
 fn matches(tally: &mut Tally, program: &mut Program, case: &Case, asked: fn(&Request) -> Call) {
     let calls: Vec<Call> = case.requests.iter().map(asked).collect();
     compare(tally, program, Some(&image::write(&case.tables)), &Input::calls(&calls));
+    explained(tally, program, case);
 }
 
 /// A line of every form, for their alterations.
 const FORMS: &[&str] = &[
     "decide 3 3 1 616e6e 726964676531 1.3.6.1.2.1.2.2.1.8.2",
+    "explain 3 3 1 616e6e 726964676531 1.3.6.1.2.1.2.2.1.8.2",
     "owner put context 7a",
     "owner remove context -",
     "owner put mapping 3 626f62 6c65616473 3 1",
