@@ -24,7 +24,7 @@ use Rattle.decision_steps.specs.Decision.{active, bearsContext, mapsPrincipal, 
 use Rattle.decision_steps.specs.Decision.{chosenAccess, viewFor, inView, viewRows, matches, greatestSubtree, chosenView, included, orRefused}
 use Rattle.decision_steps.specs.Decision.{byType, step2, step3, step4, step5, ifAny, decision, ifFound, mappingRow, accessRow}
 use Rattle.explain_rules.specs.Explanation.{mappingPicked, accessPicked, viewPicked, explained, explanation}
-use Rattle.explain_rules.specs.Truthful.{MappingTrue, rank, AccessTrue, ViewTrue, NoView, Because, not-in-range, no-context, no-mapping, no-candidate}
+use Rattle.explain_rules.specs.Truthful.{MappingTrue, rank, AccessTrue, ViewTrue, NoView, Because, out-of-range, no-context, no-mapping, no-candidate}
 use Rattle.explain_rules.specs.Truthful.{no-view, no-match, is-excluded, is-included, ExplainsTruly}
 use Rattle.numbers.proofs.Among.{Empty, every-among, kept-among, kept-passes, keep-among, first-among, first-none, find-among, find-passes}
 use Rattle.numbers.proofs.Among.{keep-none, find-none, top-among, top-empty, top-won}
@@ -279,5 +279,5 @@ explains-truly t q =
       mapping-true = λ m f. clash refl (ap isNone f);
       access-true = λ m a f g. clash refl (ap isNone f);
       view-true = λ a r f g. clash refl (ap isNone f);
-      because = not-in-range;
+      because = out-of-range e;
     }))

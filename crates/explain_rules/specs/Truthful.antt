@@ -17,7 +17,7 @@ use Rattle.numbers.specs.Lists.{Among, NoneOf}
 use Rattle.numbers.specs.Order.{before}
 use Rattle.rows.specs.Rows.{MappingRow, AccessRow, ViewRow}
 use Rattle.rows.specs.Tables.{Tables}
-use Rattle.decision_steps.specs.Request.{Request}
+use Rattle.decision_steps.specs.Request.{Request, legalRequest}
 use Rattle.decision_steps.specs.Decision.{active, bearsContext, mapsPrincipal, candidate, viewFor, inView, matches, included, answer}
 use Rattle.explain_rules.specs.Explanation.{Explanation, explanation}
 
@@ -58,7 +58,7 @@ NoView t name = (name ≡ []) ⊎ NoneOf (inView name) (t .vacmViewTreeFamilyTab
 
 -- for each answer the rows that are shown, and why: there is no other case
 pub data Because (t : Tables) (q : Request) : Answer → Option MappingRow → Option AccessRow → Option ViewRow → Type 0 where
-  not-in-range : Because t q (Faulty OutOfRange) none none none
+  out-of-range : legalRequest q ≡ false → Because t q (Faulty OutOfRange) none none none
   no-context : NoneOf (bearsContext (q .contextName)) (t .vacmContextTable) → Because t q (Decided (Refused NoSuchContext)) none none none
   no-mapping : NoneOf (mapsPrincipal (q .securityModel) (q .securityName)) (t .vacmSecurityToGroupTable)
       → Because t q (Decided (Refused NoGroupName)) none none none
