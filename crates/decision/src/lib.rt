@@ -107,7 +107,7 @@ pub fn decide_variable_in(w: &[u8], v: NamedView, variable_name: &[u32]) -> Deci
     decision_parts::by_row(w, row)
 }
 
-// The same of a variable in numbers, no more than 128 of them.
+// The decision on tables that are known to be sound, of a variable in numbers, no more than 128 of them.
 pub fn decide_variable(
     w: &[u8],
     l: Layout,
