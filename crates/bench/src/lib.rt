@@ -1,7 +1,7 @@
 // The calls on a store under C names, for the benchmark to measure beside another implementation. An agent in C links the crate `dugwalen`.
 use answers::Written;
+use edit_rules::Operation;
 use image::ROOM;
-use rows::Operation;
 use rows::Table;
 ghost use mathlib.Core.Path.{_≡_};
 ghost use Rattle.answers.specs.Numbers.{answerNumber};

@@ -15,7 +15,7 @@ use Rattle.answers.specs.declared.Fault.the-variants.{TooShort, NotAnInstance}
 use Rattle.answers.specs.declared.Written.{Written}
 use Rattle.answers.specs.declared.Written.the-variants.{Length, Unwritten}
 use Rattle.numbers.specs.Lists.{isNone}
-use Rattle.rows.specs.declared.Operation.the-variants.{Remove}
+use Rattle.rows.specs.declared.Shape.the-variants.{Key}
 use Rattle.rows.specs.declared.Table.{Table}
 use Rattle.rows.specs.Fields.{faults, values}
 use Rattle.rows.specs.Rows.{keyFields, indexOf}
@@ -113,7 +113,7 @@ column-key-short t column key b h =
       arith,
       length-append (decimalText column) (32 ∷ keyText t fields),
       length-decimal column,
-      length-entry Remove t fields (legals-read (keyFields t) key b h),
+      length-entry Key t fields (legals-read (keyFields t) key b h),
     )
 
 column-fields : (t : Table) (v : List ℕ) (d : Reading) → readColumn t v ≡ some d → values (keyFields (d .table)) (keyBytes d) ≡ d .fields

@@ -4,7 +4,7 @@ use answers::Written;
 use image::ROOM;
 use instance_decode::Decoded;
 use rows::KEY_MAX;
-use rows::Operation;
+use rows::Shape;
 use rows::Table;
 ghost use mathlib.Core.Path.{_≡_};
 ghost use mathlib.Core.List.{_++_};
@@ -58,7 +58,7 @@ pub fn put_column_key(out: &mut [u8], at: usize, t: Table, column: u32, key: &[u
 {
     let space = text_values::put_decimal(out, at, column as u64);
     let next = text_values::put_octet(out, space, b' ');
-    text_rows::put_entry(out, next, Operation::Remove, t, key)
+    text_rows::put_entry(out, next, Shape::Key, t, key)
 }
 
 // Tells a column and a key, whose bytes are whole.

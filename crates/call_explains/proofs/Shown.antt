@@ -12,7 +12,7 @@ use lib.Seq.{take-append-seam}
 use Rattle.numbers.specs.Laid.{laid}
 use Rattle.numbers.specs.Lists.{OnSome}
 use Rattle.numbers.proofs.Laid.{laid-nil}
-use Rattle.rows.specs.declared.Operation.the-variants.{Put}
+use Rattle.rows.specs.declared.Shape.{Shape}
 use Rattle.rows.specs.declared.Table.{Table}
 use Rattle.rows.specs.declared.Table.the-variants.{Mapping, Access, View}
 use Rattle.rows.specs.Fields.{legals, rowBytes, values, faults}
@@ -93,7 +93,7 @@ pub told-as : (tables : Option Tables) {q q' : Request} {at : ℕ} {w out : List
 told-as tables e h = rw (← e) h
 
 pub shown-short : (t : Table) (s : Shown) (room : List ℕ) → WholeIn t s room → length (shownText t (fieldsIn t s room)) ≤ 901
-shown-short t (Row n) room w = omega (arith, length-entry Put t (values (rowFields t) (take n room)) (w .legal))
+shown-short t (Row n) room w = omega (arith, length-entry Shape.Row t (values (rowFields t) (take n room)) (w .legal))
 shown-short t Nothing room w = omega arith
 
 pub text-short : (n : ℕ) (m a v : Option (List (List ℕ))) → length (shownText Mapping m) ≤ 901 → length (shownText Access a) ≤ 901

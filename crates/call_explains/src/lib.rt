@@ -2,8 +2,8 @@
 use explain_rules::Explained;
 use explain_rules::Shown;
 use line_fields::MOST_FIELDS;
-use rows::Operation;
 use rows::ROW_MAX;
+use rows::Shape;
 use rows::Table;
 use text_rows::Slot;
 ghost use Prim.Native.Nat.{_+_, _≤_};
@@ -32,7 +32,7 @@ fn put_shown(out: &mut [u8], at: usize, t: Table, shown: Shown, room: &[u8]) -> 
         return at;
     };
     let next = text_values::put_octet(out, at, b' ');
-    text_rows::put_entry(out, next, Operation::Put, t, &room[0..n])
+    text_rows::put_entry(out, next, Shape::Row, t, &room[0..n])
 }
 
 // Tells what a call handed back: the answer by its number, and the rows.

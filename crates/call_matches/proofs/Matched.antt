@@ -10,7 +10,7 @@ use lib.ListN.{length, take, drop, length-append}
 use lib.Seq.{take-append-seam}
 use Rattle.answers.specs.declared.Fault.{Fault}
 use Rattle.numbers.specs.BigEndian.{Octets}
-use Rattle.rows.specs.declared.Operation.the-variants.{Remove}
+use Rattle.rows.specs.declared.Shape.the-variants.{Key}
 use Rattle.rows.specs.declared.Table.{Table}
 use Rattle.rows.specs.declared.Table.the-variants.{Access, View}
 use Rattle.rows.specs.Fields.{faults, values, legals}
@@ -29,7 +29,7 @@ use Rattle.call_matches.specs.Texts.{noneText, typedText, viewMatchText,
 -- ---- short texts
 
 key-length : (t : Table) (key : List ℕ) → Octets key → faults (keyFields t) key ≡ none → length (keyText t (values (keyFields t) key)) ≤ 900
-key-length t key o h = length-entry Remove t (values (keyFields t) key) (legals-read (keyFields t) key o h)
+key-length t key o h = length-entry Key t (values (keyFields t) key) (legals-read (keyFields t) key o h)
 
 pub key-short : (t : Table) (key : List ℕ) → Octets key → faults (keyFields t) key ≡ none → length (keyText t (values (keyFields t) key)) ≤ answerRoom
 key-short t key o h = omega (arith, key-length t key o h)

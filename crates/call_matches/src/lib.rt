@@ -2,7 +2,7 @@
 use decision_match::AccessMatch;
 use decision_match::ViewMatch;
 use rows::KEY_MAX;
-use rows::Operation;
+use rows::Shape;
 use rows::Table;
 ghost use mathlib.Core.Path.{_≡_};
 ghost use mathlib.Core.Option.{none};
@@ -31,7 +31,7 @@ fn tell_key(out: &mut [u8], at: usize, t: Table, key: &[u8]) -> usize
     requires room { ⌜ Room at (now out) ⌝ }
     ensures { λ r. ⌜ Told (keyText t (values (keyFields t) (now (key .entry)))) at (now (out .entry)) (now (out .exit)) r ⌝ }
 {
-    text_rows::put_entry(out, at, Operation::Remove, t, key)
+    text_rows::put_entry(out, at, Shape::Key, t, key)
 }
 
 // Tells the key of a view row, whose bytes are whole, and the row's type.
@@ -40,7 +40,7 @@ fn tell_typed(out: &mut [u8], at: usize, key: &[u8], family_type: u8) -> usize
     requires room { ⌜ Room at (now out) ⌝ }
     ensures { λ r. ⌜ Told (typedText (values (keyFields View) (now (key .entry))) «family_type») at (now (out .entry)) (now (out .exit)) r ⌝ }
 {
-    let space = text_rows::put_entry(out, at, Operation::Remove, Table::View, key);
+    let space = text_rows::put_entry(out, at, Shape::Key, Table::View, key);
     let next = text_values::put_octet(out, space, b' ');
     text_values::put_decimal(out, next, family_type as u64)
 }

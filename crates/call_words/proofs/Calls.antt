@@ -7,7 +7,7 @@ use native.Mathlib.Omega.{arith}
 use lib.ListN.{length}
 use borrow.Author.Tests.{le-leb, lt-leb}
 use Rattle.rows.specs.declared.Table.{Table}
-use Rattle.rows.specs.declared.Operation.{Operation}
+use Rattle.edit_rules.specs.declared.Operation.{Operation}
 use Rattle.edit_rules.specs.Edits.{editOf, callerOf}
 use Rattle.edit_rules.specs.declared.Edited.{Edited}
 use Rattle.edits.specs.Calls.{OwnerEdits, PrincipalEdits}

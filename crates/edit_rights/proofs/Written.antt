@@ -11,8 +11,8 @@ use Rattle.answers.specs.declared.Cause.{Cause}
 use Rattle.answers.specs.declared.Decision.the-variants.{Refused}
 use Rattle.numbers.specs.Lists.{every}
 use Rattle.numbers.proofs.Bools.{and-left}
-use Rattle.rows.specs.declared.Operation.{Operation}
-use Rattle.rows.specs.declared.Operation.the-variants.{Put, Remove}
+use Rattle.rows.specs.declared.Shape.{Shape}
+use Rattle.rows.specs.declared.Shape.the-variants.{Row, Key}
 use Rattle.rows.specs.declared.Table.{Table}
 use Rattle.rows.specs.declared.Table.the-variants.{Context, Mapping, Access, View}
 use Rattle.image_layout.specs.declared.Layout.{Layout}
@@ -37,17 +37,17 @@ status-few Mapping = omega arith
 status-few Access = omega arith
 status-few View = omega arith
 
-written-listed : (o : Operation) (t : Table) → every (lists t) (columnsWritten o t) ≡ true
-written-listed Put t = columns-listed t
-written-listed Remove Context = refl
-written-listed Remove Mapping = refl
-written-listed Remove Access = refl
-written-listed Remove View = refl
+written-listed : (s : Shape) (t : Table) → every (lists t) (columnsWritten s t) ≡ true
+written-listed Row t = columns-listed t
+written-listed Key Context = refl
+written-listed Key Mapping = refl
+written-listed Key Access = refl
+written-listed Key View = refl
 
 -- the first of them
-pub first-listed : (o : Operation) (t : Table) (column n : ℕ) → counted column n ≡ columnsWritten o t → lists t column ≡ true
-first-listed o t column zero e = let z : [] ≡ written-begin o t .first ∷ written-begin o t .others = e ∙ written-begin o t .is in cc
-first-listed o t column (suc n) e = and-left _ _ (ap (every (lists t)) e ∙ written-listed o t)
+pub first-listed : (s : Shape) (t : Table) (column n : ℕ) → counted column n ≡ columnsWritten s t → lists t column ≡ true
+first-listed s t column zero e = let z : [] ≡ written-begin s t .first ∷ written-begin s t .others = e ∙ written-begin s t .is in cc
+first-listed s t column (suc n) e = and-left _ _ (ap (every (lists t)) e ∙ written-listed s t)
 
 -- ---- the instance of a column
 
@@ -60,12 +60,12 @@ column-inside t column index = omega (arith, length-append (base t) (column ∷ 
 -- ---- by what steps 1 to 4 come to
 
 module _ {w : List ℕ} {l : Layout} (c : Caller) {r : Authorized}
-    (k : Authorizes w l (c .securityModel) (c .securityName) (c .securityLevel) write [] r) (o : Operation) (t : Table) (index : List ℕ) where
-  pub judged-denied : {cause : Cause} → r .standing ≡ Denied cause → Refused cause ≡ judgementAt (tablesAt w l) c o t index
+    (k : Authorizes w l (c .securityModel) (c .securityName) (c .securityLevel) write [] r) (s : Shape) (t : Table) (index : List ℕ) where
+  pub judged-denied : {cause : Cause} → r .standing ≡ Denied cause → Refused cause ≡ judgementAt (tablesAt w l) c s t index
   unfolding judgementAt
-  judged-denied e = all-refused _ (λ column. denied-decision k (instance t column index) e) o t
+  judged-denied e = all-refused _ (λ column. denied-decision k (instance t column index) e) s t
 
   pub judged-viewed : {v : NamedView} → r .standing ≡ Viewed v
-      → firstRefusal (λ column. step5 (instance t column index) (rowsOf w v)) (columnsWritten o t) ≡ judgementAt (tablesAt w l) c o t index
+      → firstRefusal (λ column. step5 (instance t column index) (rowsOf w v)) (columnsWritten s t) ≡ judgementAt (tablesAt w l) c s t index
   unfolding judgementAt
-  judged-viewed e = refusals-same (λ column. viewed-decision k (instance t column index) e) (columnsWritten o t)
+  judged-viewed e = refusals-same (λ column. viewed-decision k (instance t column index) e) (columnsWritten s t)

@@ -9,7 +9,7 @@ use decision_parts::Standing;
 use edit_rules::Edited;
 use image_layout::Layout;
 use instance_encode::Columns;
-use rows::Operation;
+use rows::Shape;
 use rows::Table;
 ghost use mathlib.Core.Path.{_≡_};
 ghost use mathlib.Core.Option.{none};
@@ -52,13 +52,13 @@ fn status_column(t: Table) -> u8
 // ---- the columns that an edit writes
 
 // A put writes all of the table's, a removal the status.
-fn columns_written(c: Operation, t: Table) -> Columns
-    ensures written { λ r. ⌜ counted (r .first) (r .count) ≡ columnsWritten c t ⌝ }
+fn columns_written(s: Shape, t: Table) -> Columns
+    ensures written { λ r. ⌜ counted (r .first) (r .count) ≡ columnsWritten s t ⌝ }
     ensures few { λ r. ⌜ r .first + r .count ≤ 10 ⌝ }
 {
-    match c {
-        Operation::Put => instance_encode::columns_of(t),
-        Operation::Remove => Columns {
+    match s {
+        Shape::Row => instance_encode::columns_of(t),
+        Shape::Key => Columns {
             first: status_column(t),
             count: 1,
         },
@@ -95,13 +95,13 @@ fn judge_columns(
 }
 
 // The edit of the row with this key, judged by the view. An instance has no more than 110 parts.
-fn judge_in(w: &[u8], v: NamedView, c: Operation, t: Table, key: &[u8]) -> Decision
+fn judge_in(w: &[u8], v: NamedView, s: Shape, t: Table, key: &[u8]) -> Decision
     requires view { ⌜ ViewIn (now w) v ⌝ }
     requires whole { ⌜ faults (keyFields t) (now key) ≡ none ⌝ }
     ensures { λ r. ⌜ r ≡ firstRefusal (λ column. step5 (instance t column (indexOf t (now (key .entry)))) (rowsOf (now (w .entry)) v))
-        (columnsWritten c t) ⌝ }
+        (columnsWritten s t) ⌝ }
 {
-    let columns = columns_written(c, t);
+    let columns = columns_written(s, t);
     let mut parts = [0u32; MOST_PARTS];
     let written = instance_encode::encode(t, columns.first as u32, key, &mut parts);
     let Written::Length(n) = written else {
@@ -123,13 +123,13 @@ fn judge_edit(
     security_model: u32,
     security_name: &[u8],
     security_level: u32,
-    c: Operation,
+    s: Shape,
     t: Table,
     key: &[u8],
 ) -> Decision
     requires tables { ⌜ SoundLayout (now w) l ⌝ }
     requires whole { ⌜ faults (keyFields t) (now key) ≡ none ⌝ }
-    ensures { λ r. ⌜ r ≡ judgementAt (tablesAt (now (w .entry)) l) (callerOf «security_model» (now («security_name» .entry)) «security_level») c t
+    ensures { λ r. ⌜ r ≡ judgementAt (tablesAt (now (w .entry)) l) (callerOf «security_model» (now («security_name» .entry)) «security_level») s t
         (indexOf t (now (key .entry))) ⌝ }
 {
     let context = [0u8; 1];
@@ -145,7 +145,7 @@ fn judge_edit(
     let standing = authorized.standing;
     match standing {
         Standing::Denied(cause) => Decision::Refused(cause),
-        Standing::Viewed(v) => judge_in(w, v, c, t, key),
+        Standing::Viewed(v) => judge_in(w, v, s, t, key),
     }
 }
 
@@ -164,14 +164,14 @@ pub fn admit(
     security_model: u32,
     security_name: &[u8],
     security_level: u32,
-    c: Operation,
+    s: Shape,
     t: Table,
     key: &[u8],
 ) -> Admission
     requires tables { ⌜ SoundLayout (now w) l ⌝ }
     requires whole { ⌜ faults (keyFields t) (now key) ≡ none ⌝ }
     ensures { λ r. ⌜ r ≡ admission (isContext t) (judgementAt (tablesAt (now (w .entry)) l)
-        (callerOf «security_model» (now («security_name» .entry)) «security_level») c t (indexOf t (now (key .entry)))) ⌝ }
+        (callerOf «security_model» (now («security_name» .entry)) «security_level») s t (indexOf t (now (key .entry)))) ⌝ }
 {
     if is_context(t) {
         return Admission::Denied(Edited::Faulty(Fault::ContextTable));
@@ -182,7 +182,7 @@ pub fn admit(
         security_model,
         security_name,
         security_level,
-        c,
+        s,
         t,
         key,
     );

@@ -8,9 +8,10 @@ use Prim.Native.Nat.{ℕ, _-_}
 use native.Mathlib.Omega.{arith}
 use lib.ListN.{length, take}
 use Rattle.answers.specs.declared.Cause.{Cause}
-use Rattle.rows.specs.declared.Operation.{Operation}
+use Rattle.edit_rules.specs.declared.Operation.{Operation}
 use Rattle.rows.specs.declared.Table.{Table}
 use Rattle.rows.specs.Fields.{faults}
+use Rattle.rows.specs.Rows.{fieldsOf}
 use Rattle.rows.specs.Tables.{Tables}
 use Rattle.numbers.specs.BigEndian.{Octets}
 use Rattle.numbers.proofs.BigEndian.{octets-take}
@@ -21,7 +22,7 @@ use Rattle.table_update.proofs.Stores.{rowKey}
 use Rattle.table_update.proofs.Existence.{placeOf, place-sought, after, after-exchanges, after-octets}
 use Rattle.edit_rules.specs.declared.Edited.{Edited}
 use Rattle.edit_rules.specs.declared.Edited.the-variants.{Done, Barred, Faulty}
-use Rattle.edit_rules.specs.Edits.{Outcome, editOf, fieldsOf, edit, isContext}
+use Rattle.edit_rules.specs.Edits.{Outcome, editOf, shapeOf, edit, isContext}
 use Rattle.edit_rows.specs.Promise.{Edits, lengthIn}
 use Rattle.edit_rows.proofs.Stores.{faulty-done, answerAt, change-refused, change-asked, change-done}
 
@@ -35,18 +36,18 @@ barred-done : {c : Cause} → Barred c ≡ Done → ⊥
 barred-done e = let z : _≡_ {A = ℕ} 0 1 = cc e in omega arith
 
 module _ (o : Operation) (t : Table) (w : List ℕ) (h : isSound w ≡ true) (b : Octets w) (strict : Bool) (n : strict ≡ true → isContext t ≡ false)
-    (bytes : List ℕ) (d : Octets bytes) (f : faults (fieldsOf o t) bytes ≡ none) where
+    (bytes : List ℕ) (d : Octets bytes) (f : faults (fieldsOf (shapeOf o) t) bytes ≡ none) where
   abbrev sought : Sought w (extentOf t (layoutOf w)) (rowKey t bytes) (placeOf w (extentOf t (layoutOf w)) (rowKey t bytes))
   sought = place-sought w (extentOf t (layoutOf w)) (rowKey t bytes)
 
   -- the bytes that come into the table
   abbrev row : List ℕ
-  row = take (lengthIn o (length bytes) - 0) bytes
+  row = take (lengthIn (shapeOf o) (length bytes) - 0) bytes
 
   made-as : (r : Edited) → r ≡ answerAt t w h b strict n bytes d sought o → Made (λ ts. edit strict ts (editOf o t bytes)) w
   made-as Done e =
       let a = change-asked t w h b strict n bytes d sought o f (sym e) {x = extentOf t (layoutOf w)} {end = endOf w (layoutOf w .views)} refl refl refl refl in
-      let c = octets-take (lengthIn o (length bytes) - 0) bytes d in
+      let c = octets-take (lengthIn (shapeOf o) (length bytes) - 0) bytes d in
       record {
         left = after b (a .0) row c (a .1);
         answered = Done;

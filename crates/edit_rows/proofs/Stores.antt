@@ -22,7 +22,7 @@ use Rattle.numbers.proofs.Greatest.{Ascends}
 use Rattle.rows.specs.declared.Table.{Table}
 use Rattle.rows.specs.declared.Table.the-variants.{Context, Mapping, Access, View}
 use Rattle.rows.specs.Fields.{faults, span}
-use Rattle.rows.specs.Rows.{keyFields, limit}
+use Rattle.rows.specs.Rows.{keyFields, fieldsOf, limit}
 use Rattle.rows.specs.Tables.{Tables}
 use Rattle.rows.proofs.Appends.{key-room}
 use Rattle.rows.proofs.Inverse.{span-whole}
@@ -39,12 +39,14 @@ use Rattle.table_update.proofs.Keys.{rising}
 use Rattle.table_update.proofs.Splits.{length-rows}
 use Rattle.table_update.proofs.Stores.{rowKey, sound-whole, sound-ascends, sound-put, sound-removed, sought-exchanges, one-row}
 use Rattle.table_update.proofs.Rooms.{image-in, room-for, room-removed}
-use Rattle.rows.specs.declared.Operation.{Operation}
-use Rattle.rows.specs.declared.Operation.the-variants.{Put, Remove}
+use Rattle.edit_rules.specs.declared.Operation.{Operation}
+use Rattle.edit_rules.specs.declared.Operation.the-variants.{Put, Remove}
+use Rattle.rows.specs.declared.Shape.{Shape}
+use Rattle.rows.specs.declared.Shape.the-variants.{Row, Key}
 use Rattle.edit_rules.specs.declared.Edited.{Edited}
 use Rattle.edit_rules.proofs.Edited.{the-type}
 use Rattle.edit_rules.specs.declared.Edited.the-variants.{Done, Barred, Faulty}
-use Rattle.edit_rules.specs.Edits.{Outcome, outcome, editedNumber, editOf, fieldsOf, faulted, edit, isContext}
+use Rattle.edit_rules.specs.Edits.{Outcome, outcome, editedNumber, editOf, shapeOf, faulted, edit, isContext}
 use Rattle.edit_rules.specs.TableRows.{rowIndex, rowsOf}
 use Rattle.edit_rules.specs.Storage.{storageIn, storageAt, StorageKnown, placeFault, placed, fullAt}
 use Rattle.edit_rules.proofs.Storages.{storage-room, storage-at, held-storage}
@@ -75,10 +77,10 @@ module _ {w : List ℕ} {l : Layout} (h : isSound w ≡ true) (q : l ≡ layoutO
   image-laid e = rw (e ∙ ap (λ k. endOf w (k .views)) q) (image-in w h)
 
 -- as the code seeks: in an extent that is known, by the bytes up to k
-pub rising-laid : (c : Operation) (t : Table) (w bytes : List ℕ) {l : Layout} {x : Extent} {k : ℕ} → isSound w ≡ true → Octets w → Octets bytes
-    → faults (fieldsOf c t) bytes ≡ none → l ≡ layoutOf w → x ≡ extentOf t l → k ≡ span (keyFields t) bytes → Rising (take (k - 0) bytes) (rowsIn w x)
-rising-laid c t w bytes h b d f q y e =
-    rw (key-part t bytes (sym e), y ∙ ap (extentOf t) q) (rising (key-of c t bytes d f) (tableRows t w) (sound-whole t w h b) (sound-ascends t w h))
+pub rising-laid : (y : Shape) (t : Table) (w bytes : List ℕ) {l : Layout} {x : Extent} {k : ℕ} → isSound w ≡ true → Octets w → Octets bytes
+    → faults (fieldsOf y t) bytes ≡ none → l ≡ layoutOf w → x ≡ extentOf t l → k ≡ span (keyFields t) bytes → Rising (take (k - 0) bytes) (rowsIn w x)
+rising-laid y t w bytes h b d f q z e =
+    rw (key-part t bytes (sym e), z ∙ ap (extentOf t) q) (rising (key-of y t bytes d f) (tableRows t w) (sound-whole t w h b) (sound-ascends t w h))
 
 pub sought-laid : (t : Table) (w bytes : List ℕ) {l : Layout} {x : Extent} {k : ℕ} {p : Place} → l ≡ layoutOf w → x ≡ extentOf t l
     → k ≡ span (keyFields t) bytes → Sought w x (take (k - 0) bytes) p → Sought w (extentOf t (layoutOf w)) (rowKey t bytes) p
@@ -177,32 +179,32 @@ placed-done (some g) full e = absurd (faulty-done e)
 
 -- Done only where the row is held, or is put where there is room
 done-room : (strict : Bool) (o : Operation) (h : Bool) (old new n m : ℕ) → placed (placeFault strict o h old new) (fullAt o h n m) ≡ Done → h ≡ false
-    → (o ≡ Put) × (m < n)
+    → (shapeOf o ≡ Row) × (m < n)
 done-room strict o true old new n m e f = clash refl f
 done-room strict Put false old new n m e f = (refl, leb-false n m (placed-done (placeFault strict Put false old new) (leb n m) e))
 done-room strict Remove false old new n m e f = absurd (faulty-done e)
 
 -- ---- the bytes handed: where the key ends, and what comes into the table
 
-pub key-within : (c : Operation) (t : Table) (bytes : List ℕ) → faults (fieldsOf c t) bytes ≡ none → span (keyFields t) bytes ≤ length bytes
-key-within Put t bytes f = key-room t bytes f
-key-within Remove t bytes f = omega (arith, span-whole (keyFields t) bytes f)
+pub key-within : (y : Shape) (t : Table) (bytes : List ℕ) → faults (fieldsOf y t) bytes ≡ none → span (keyFields t) bytes ≤ length bytes
+key-within Row t bytes f = key-room t bytes f
+key-within Key t bytes f = omega (arith, span-whole (keyFields t) bytes f)
 
-abbrev taken : Operation → List ℕ → List ℕ
-taken Put bytes = bytes
-taken Remove bytes = []
+abbrev taken : Shape → List ℕ → List ℕ
+taken Row bytes = bytes
+taken Key bytes = []
 
-taken-is : (c : Operation) (bytes : List ℕ) {n : ℕ} → n ≡ lengthIn c (length bytes) → take (n - 0) bytes ≡ taken c bytes
-taken-is Put bytes {n} e = take-all (n - 0) bytes (omega arith)
-taken-is Remove bytes {n} e = let z : n - 0 ≡ 0 = omega arith in ap (λ m. take m bytes) z
+taken-is : (y : Shape) (bytes : List ℕ) {n : ℕ} → n ≡ lengthIn y (length bytes) → take (n - 0) bytes ≡ taken y bytes
+taken-is Row bytes {n} e = take-all (n - 0) bytes (omega arith)
+taken-is Key bytes {n} e = let z : n - 0 ≡ 0 = omega arith in ap (λ m. take m bytes) z
 
-pub taken-within : (c : Operation) (bytes : List ℕ) {n : ℕ} → n ≡ lengthIn c (length bytes) → n ≤ length bytes
-taken-within Put bytes e = omega arith
-taken-within Remove bytes e = omega arith
+pub taken-within : (y : Shape) (bytes : List ℕ) {n : ℕ} → n ≡ lengthIn y (length bytes) → n ≤ length bytes
+taken-within Row bytes e = omega arith
+taken-within Key bytes e = omega arith
 
-comes-taken : (c : Operation) (t : Table) (bytes : List ℕ) → Octets bytes → faults (fieldsOf c t) bytes ≡ none → oneRow (taken c bytes) ≡ comes c bytes
-comes-taken Put t bytes d f = one-row t bytes d f
-comes-taken Remove t bytes d f = refl
+comes-taken : (y : Shape) (t : Table) (bytes : List ℕ) → Octets bytes → faults (fieldsOf y t) bytes ≡ none → oneRow (taken y bytes) ≡ comes y bytes
+comes-taken Row t bytes d f = one-row t bytes d f
+comes-taken Key t bytes d f = refl
 
 -- ---- a row changed in a sound store
 
@@ -224,35 +226,35 @@ module _ (t : Table) (w : List ℕ) (h : isSound w ≡ true) (b : Octets w) (str
   answerAt c = placed (faultAt c) (fullHere c)
 
   -- where the row is not held, the answer Done is of a put, and there is room
-  absent-done : (c : Operation) → answerAt c ≡ Done → p .present ≡ false → (c ≡ Put) × (extentOf t (layoutOf w) .count < limit t)
+  absent-done : (c : Operation) → answerAt c ≡ Done → p .present ≡ false → (shapeOf c ≡ Row) × (extentOf t (layoutOf w) .count < limit t)
   absent-done c e = done-room strict c (p .present) (storageAt w p) (storageIn bytes) (limit t) (extentOf t (layoutOf w) .count) e
 
-  room-left : answerAt Put ≡ Done → isHeld key rows ≡ false → length rows < limit t
-  room-left e m = omega (arith, absent-done Put e (s .present-is ∙ m) .1, length-rows w (extentOf t (layoutOf w)))
+  room-left : (c : Operation) → answerAt c ≡ Done → isHeld key rows ≡ false → length rows < limit t
+  room-left c e m = omega (arith, absent-done c e (s .present-is ∙ m) .1, length-rows w (extentOf t (layoutOf w)))
 
-  removed-held : answerAt Remove ≡ Done → p .present ≡ true
-  removed-held e = is-true (p .present) (λ m. let z : _≡_ {A = ℕ} 0 1 = cc (absent-done Remove e m .0) in omega arith)
+  removed-held : (c : Operation) → shapeOf c ≡ Key → answerAt c ≡ Done → p .present ≡ true
+  removed-held c q e = is-true (p .present) (λ m. let z : _≡_ {A = ℕ} 0 1 = cc (sym (absent-done c e m .0) ∙ q) in omega arith)
 
-  room-taken : (c : Operation) → faults (fieldsOf c t) bytes ≡ none → answerAt c ≡ Done → {end : ℕ} → ImageIn w end
-      → RoomFor w p end (taken c bytes)
-  room-taken Put f e i = room-for t w bytes h b d f (room-left e) i s
-  room-taken Remove f e i = room-removed p i (removed-held e)
+  room-taken : (c : Operation) (y : Shape) → shapeOf c ≡ y → faults (fieldsOf y t) bytes ≡ none → answerAt c ≡ Done → {end : ℕ} → ImageIn w end
+      → RoomFor w p end (taken y bytes)
+  room-taken c Row q f e i = room-for t w bytes h b d f (room-left c e) i s
+  room-taken c Key q f e i = room-removed p i (removed-held c q e)
 
-  sound-after : (c : Operation) → faults (fieldsOf c t) bytes ≡ none → answerAt c ≡ Done → {after : List ℕ}
-      → Exchanges t (rowsBefore key rows) (oneIf (isHeld key rows)) (comes c bytes) w after → isSound after ≡ true
-  sound-after Put f e x = sound-put t w bytes h b d f (room-left e) x
-  sound-after Remove f e x = sound-removed t w bytes h b d f (rw (key-whole t bytes f) at x)
+  sound-after : (c : Operation) (y : Shape) → faults (fieldsOf y t) bytes ≡ none → answerAt c ≡ Done → {after : List ℕ}
+      → Exchanges t (rowsBefore key rows) (oneIf (isHeld key rows)) (comes y bytes) w after → isSound after ≡ true
+  sound-after c Row f e x = sound-put t w bytes h b d f (room-left c e) x
+  sound-after c Key f e x = sound-removed t w bytes h b d f (rw (key-whole t bytes f) at x)
 
-  module _ (c : Operation) (f : faults (fieldsOf c t) bytes ≡ none) where
+  module _ (c : Operation) (f : faults (fieldsOf (shapeOf c) t) bytes ≡ none) where
     edit-is : edit strict (tables (storeRows w)) (editOf c t bytes)
-        ≡ judged (changed t (rowsBefore key rows) (oneIf (isHeld key rows)) (comes c bytes) (storeRows w)) (tables (storeRows w)) (answerAt c)
+        ≡ judged (changed t (rowsBefore key rows) (oneIf (isHeld key rows)) (comes (shapeOf c) bytes) (storeRows w)) (tables (storeRows w)) (answerAt c)
     edit-is =
         edit-change (storeRows w) (λ u. sound-whole u w h b) (λ u. sound-ascends u w h) strict t n bytes d c f
-        ∙ ap (judged (changed t (rowsBefore key rows) (oneIf (isHeld key rows)) (comes c bytes) (storeRows w)) (tables (storeRows w)))
+        ∙ ap (judged (changed t (rowsBefore key rows) (oneIf (isHeld key rows)) (comes (shapeOf c) bytes) (storeRows w)) (tables (storeRows w)))
         (rw (storage-at s, s .present-is, length-rows w (extentOf t (layoutOf w))))
 
     -- what answering asks
-    pub storage-known : strict ≡ true → StorageKnown c w p bytes
+    pub storage-known : strict ≡ true → StorageKnown (shapeOf c) w p bytes
     storage-known y = record {
       of-held = held-storage s t (n y) (table-inside t w h) (sound-whole t w h b);
       of-put = λ e. storage-room t (n y) bytes (subst (λ k. faults (fieldsOf k t) bytes ≡ none) e f);
@@ -264,16 +266,17 @@ module _ (t : Table) (w : List ℕ) (h : isSound w ≡ true) (b : Octets w) (str
 
     module _ (e : answerAt c ≡ Done) where
       -- what exchanging asks
-      pub change-asked : {l : Layout} {x : Extent} {end k : ℕ} → l ≡ layoutOf w → x ≡ extentOf t l → end ≡ endOf w (l .views) → k ≡ lengthIn c (length bytes)
+      pub change-asked : {l : Layout} {x : Extent} {end k : ℕ} → l ≡ layoutOf w → x ≡ extentOf t l → end ≡ endOf w (l .views)
+          → k ≡ lengthIn (shapeOf c) (length bytes)
           → TablePlace t w x p end × RoomFor w p end (take (k - 0) bytes)
       change-asked {l} {x} {end} q y v u =
           let i : ImageIn w end = image-laid h q v in
           let z : x ≡ extentOf t (layoutOf w) = y ∙ ap (extentOf t) q in
-          (record { image-in = i; extent-is = z; place-in = rw z (s .place-in) }, rw (taken-is c bytes u) (room-taken c f e i))
+          (record { image-in = i; extent-is = z; place-in = rw z (s .place-in) }, rw (taken-is (shapeOf c) bytes u) (room-taken c (shapeOf c) refl f e i))
 
-      pub change-done : {after : List ℕ} {k : ℕ} → k ≡ lengthIn c (length bytes)
+      pub change-done : {after : List ℕ} {k : ℕ} → k ≡ lengthIn (shapeOf c) (length bytes)
           → Exchanges t (p .row) (oneIf (p .present)) (oneRow (take (k - 0) bytes)) w after → Edits (λ ts. edit strict ts (editOf c t bytes)) w after Done
       change-done {after} u x =
-          let y = sought-exchanges s (rw (taken-is c bytes u, comes-taken c t bytes d f) at x) in
-          edits-done (λ ts. edit strict ts (editOf c t bytes)) w h after (sound-after c f e y)
+          let y = sought-exchanges s (rw (taken-is (shapeOf c) bytes u, comes-taken (shapeOf c) t bytes d f) at x) in
+          edits-done (λ ts. edit strict ts (editOf c t bytes)) w h after (sound-after c (shapeOf c) f e y)
           (edit-is ∙ ap (judged _ _) e ∙ ap (outcome Done) (sym (tables-ext (storeRows after) _ (y .rows-are))))

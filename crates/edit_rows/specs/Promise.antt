@@ -5,18 +5,18 @@ use mathlib.Core.List.{List}
 use mathlib.Core.Option.{Option, none, some}
 use Prim.Native.Nat.{ℕ}
 use Rattle.answers.specs.declared.Fault.the-variants.{NotSound}
+use Rattle.rows.specs.declared.Shape.{Shape}
+use Rattle.rows.specs.declared.Shape.the-variants.{Row, Key}
 use Rattle.rows.specs.declared.Table.{Table}
 use Rattle.rows.specs.Fields.{faults, span}
-use Rattle.rows.specs.Rows.{keyFields}
+use Rattle.rows.specs.Rows.{keyFields, fieldsOf}
 use Rattle.rows.specs.Tables.{Tables}
 use Rattle.image_layout.specs.declared.Layout.{Layout}
 use Rattle.image_layout.specs.Layout.{layoutOf}
 use Rattle.image.specs.Store.{isSound, held}
-use Rattle.rows.specs.declared.Operation.{Operation}
-use Rattle.rows.specs.declared.Operation.the-variants.{Put, Remove}
 use Rattle.edit_rules.specs.declared.Edited.{Edited}
 use Rattle.edit_rules.specs.declared.Edited.the-variants.{Done, Faulty}
-use Rattle.edit_rules.specs.Edits.{Outcome, editedNumber, fieldsOf, isContext}
+use Rattle.edit_rules.specs.Edits.{Outcome, editedNumber, isContext}
 
 -- 6 first
 abbrev pub answered : (Tables → Outcome) → Option Tables → Edited
@@ -43,11 +43,11 @@ pub record Editable (strict : Bool) (t : Table) (w : List ℕ) (l : Layout) : Ty
   pub free : strict ≡ true → isContext t ≡ false
 
 -- whole bytes of a row or a key, and where the key ends
-pub record Handed (o : Operation) (t : Table) (bytes : List ℕ) (key : ℕ) : Type 0 where
-  pub whole : faults (fieldsOf o t) bytes ≡ none
+pub record Handed (s : Shape) (t : Table) (bytes : List ℕ) (key : ℕ) : Type 0 where
+  pub whole : faults (fieldsOf s t) bytes ≡ none
   pub key-is : key ≡ span (keyFields t) bytes
 
 -- how many of the bytes handed come into the table: a row put, all of them
-abbrev pub lengthIn : Operation → ℕ → ℕ
-lengthIn Put n = n
-lengthIn Remove n = 0
+abbrev pub lengthIn : Shape → ℕ → ℕ
+lengthIn Row n = n
+lengthIn Key n = 0

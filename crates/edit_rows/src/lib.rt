@@ -1,14 +1,15 @@
 // The edit of a sound store by a row or key that is legal: answered at the place of the key, and made there.
 use answers::Fault;
 use edit_rules::Edited;
+use edit_rules::Operation;
 use image_layout::Layout;
-use rows::Operation;
+use rows::Shape;
 use rows::Table;
 use table_update::Place;
 ghost use mathlib.Core.Path.{_≡_};
 ghost use mathlib.Core.Bool.{true, false};
 ghost use Rattle.rows.specs.Rows.{limit};
-ghost use Rattle.edit_rules.specs.Edits.{edit, editOf, faulted, absentFault, comesIn};
+ghost use Rattle.edit_rules.specs.Edits.{edit, editOf, shapeOf, faulted, absentFault, comesIn};
 ghost use Rattle.edit_rules.specs.Storage.{storageIn, storageAt, StorageKnown, placeFault, fullAt};
 ghost use Rattle.edit_rows.specs.Promise.{Edits, Editable, Handed, lengthIn};
 
@@ -29,7 +30,7 @@ fn judge_presence(c: Operation, present: bool) -> Edited
 
 // What stands against an edit at the place of its key, if anything does. Strict: by a principal, to whom the storage rules apply.
 pub fn judge_place(w: &[u8], strict: bool, c: Operation, p: Place, bytes: &[u8]) -> Edited
-    requires { ⌜ (strict ≡ true → StorageKnown c (now w) p (now bytes)) ⌝ }
+    requires { ⌜ (strict ≡ true → StorageKnown (shapeOf c) (now w) p (now bytes)) ⌝ }
     ensures { λ r. ⌜ r ≡ faulted (placeFault strict c (p .present) (storageAt (now (w .entry)) p) (storageIn (now (bytes .entry)))) ⌝ }
 {
     let presence = judge_presence(c, p.present);
@@ -37,7 +38,7 @@ pub fn judge_place(w: &[u8], strict: bool, c: Operation, p: Place, bytes: &[u8])
         return presence;
     };
     if strict {
-        if !edit_storage::may_change(w, c, p, bytes) {
+        if !edit_storage::may_change(w, edit_rules::shape_of(c), p, bytes) {
             return Edited::Faulty(Fault::StorageForbids);
         }
     }
@@ -63,12 +64,12 @@ pub fn is_full(c: Operation, t: Table, present: bool, count: usize) -> bool
     rows::limit(t) <= count
 }
 
-fn length_in(c: Operation, n: usize) -> usize
-    ensures { λ r. ⌜ r ≡ lengthIn c n ⌝ }
+fn length_in(s: Shape, n: usize) -> usize
+    ensures { λ r. ⌜ r ≡ lengthIn s n ⌝ }
 {
-    match c {
-        Operation::Put => n,
-        Operation::Remove => 0,
+    match s {
+        Shape::Row => n,
+        Shape::Key => 0,
     }
 }
 
@@ -83,7 +84,7 @@ pub fn change(
     key: usize,
 ) -> Edited
     requires store { ⌜ Editable strict t (now w) l ⌝ }
-    requires handed { ⌜ Handed c t (now bytes) key ⌝ }
+    requires handed { ⌜ Handed (shapeOf c) t (now bytes) key ⌝ }
     ensures { λ r. ⌜ Edits (λ rows. edit strict rows (editOf c t (now (bytes .entry)))) (now (w .entry)) (now (w .exit)) r ⌝ }
 {
     let x = table_update::extent_of(l, t);
@@ -97,7 +98,7 @@ pub fn change(
     }
     let views = l.views;
     let end = image_layout::end_of(w, views);
-    let n = length_in(c, bytes.len());
+    let n = length_in(edit_rules::shape_of(c), bytes.len());
     table_update::exchange(w, t, x, p, end, &bytes[0..n]);
     Edited::Done
 }

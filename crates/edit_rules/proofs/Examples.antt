@@ -7,8 +7,8 @@ use Rattle.answers.specs.declared.Cause.the-variants.{NoSuchView, NotInView}
 use Rattle.answers.specs.declared.Decision.{Decision}
 use Rattle.answers.specs.declared.Decision.the-variants.{Allowed, Refused}
 use Rattle.numbers.specs.Order.{same, before, begins}
-use Rattle.rows.specs.declared.Operation.{Operation}
-use Rattle.rows.specs.declared.Operation.the-variants.{Put, Remove}
+use Rattle.rows.specs.declared.Shape.{Shape}
+use Rattle.rows.specs.declared.Shape.the-variants.{Row, Key}
 use Rattle.rows.specs.declared.Table.{Table}
 use Rattle.rows.specs.declared.Table.the-variants.{Mapping, Access, View}
 use Rattle.rows.specs.Rows.{ViewRow}
@@ -50,52 +50,52 @@ granting t columns = record {
 }
 
 -- the row's index makes no difference: no subtree goes into it
-unfoldable pub judged : Table → List ℕ → Operation → Decision
+unfoldable pub judged : Table → List ℕ → Shape → Decision
 unfolding judgementAt decision bearsContext mapsPrincipal contextFits candidate chosenAccess viewFor inView maskBit agrees matches chosenView same before
     begins
-judged t columns o = judgementAt (granting t columns) (callerOf 3 a 1) o t []
+judged t columns s = judgementAt (granting t columns) (callerOf 3 a 1) s t []
 
 -- ---- a put
 
-pub every-column : judged Mapping (3 ∷ 4 ∷ 5 ∷ []) Put ≡ Allowed
+pub every-column : judged Mapping (3 ∷ 4 ∷ 5 ∷ []) Row ≡ Allowed
 unfolding judged
 every-column = refl
 
-pub every-column-of-access : judged Access (4 ∷ 5 ∷ 6 ∷ 7 ∷ 8 ∷ 9 ∷ []) Put ≡ Allowed
+pub every-column-of-access : judged Access (4 ∷ 5 ∷ 6 ∷ 7 ∷ 8 ∷ 9 ∷ []) Row ≡ Allowed
 unfolding judged
 every-column-of-access = refl
 
-pub every-column-of-a-view : judged View (3 ∷ 4 ∷ 5 ∷ 6 ∷ []) Put ≡ Allowed
+pub every-column-of-a-view : judged View (3 ∷ 4 ∷ 5 ∷ 6 ∷ []) Row ≡ Allowed
 unfolding judged
 every-column-of-a-view = refl
 
-pub status-alone : judged Mapping (5 ∷ []) Put ≡ Refused NotInView
+pub status-alone : judged Mapping (5 ∷ []) Row ≡ Refused NotInView
 unfolding judged
 status-alone = refl
 
-pub first-alone : judged Access (4 ∷ []) Put ≡ Refused NotInView
+pub first-alone : judged Access (4 ∷ []) Row ≡ Refused NotInView
 unfolding judged
 first-alone = refl
 
-pub last-missing : judged View (3 ∷ 4 ∷ 5 ∷ []) Put ≡ Refused NotInView
+pub last-missing : judged View (3 ∷ 4 ∷ 5 ∷ []) Row ≡ Refused NotInView
 unfolding judged
 last-missing = refl
 
-pub one-between-missing : judged Access (4 ∷ 5 ∷ 7 ∷ 8 ∷ 9 ∷ []) Put ≡ Refused NotInView
+pub one-between-missing : judged Access (4 ∷ 5 ∷ 7 ∷ 8 ∷ 9 ∷ []) Row ≡ Refused NotInView
 unfolding judged
 one-between-missing = refl
 
 -- causes 1 to 4 are the same at each column
-pub no-view : judged Mapping [] Put ≡ Refused NoSuchView
+pub no-view : judged Mapping [] Row ≡ Refused NoSuchView
 unfolding judged
 no-view = refl
 
 -- ---- a removal
 
-pub removed : judged Mapping (5 ∷ []) Remove ≡ Allowed
+pub removed : judged Mapping (5 ∷ []) Key ≡ Allowed
 unfolding judged
 removed = refl
 
-pub kept : judged Access (4 ∷ 5 ∷ 6 ∷ 7 ∷ 8 ∷ []) Remove ≡ Refused NotInView
+pub kept : judged Access (4 ∷ 5 ∷ 6 ∷ 7 ∷ 8 ∷ []) Key ≡ Refused NotInView
 unfolding judged
 kept = refl

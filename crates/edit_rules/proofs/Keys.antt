@@ -5,16 +5,15 @@ use mathlib.Core.Option.{none}
 use Prim.Native.Nat.{ℕ, _-_}
 use native.Mathlib.Omega.{arith}
 use lib.ListN.{take}
+use Rattle.rows.specs.declared.Shape.{Shape}
+use Rattle.rows.specs.declared.Shape.the-variants.{Row, Key}
 use Rattle.rows.specs.declared.Table.{Table}
 use Rattle.numbers.specs.BigEndian.{Octets}
 use Rattle.rows.specs.Fields.{faults, values, span, index}
-use Rattle.rows.specs.Rows.{keyFields, rowFields, indexOf}
+use Rattle.rows.specs.Rows.{keyFields, rowFields, fieldsOf, indexOf}
 use Rattle.rows.proofs.Inverse.{values-made}
 use Rattle.rows.proofs.Keys.{front-bytes, front-legal, front-whole}
 use Rattle.table_update.proofs.Stores.{rowKey}
-use Rattle.rows.specs.declared.Operation.{Operation}
-use Rattle.rows.specs.declared.Operation.the-variants.{Put, Remove}
-use Rattle.edit_rules.specs.Edits.{fieldsOf}
 use Rattle.edit_rules.proofs.Outcomes.{key-whole}
 
 module _ (t : Table) (row : List ℕ) (b : Octets row) (f : faults (rowFields t) row ≡ none) where
@@ -25,12 +24,12 @@ module _ (t : Table) (row : List ℕ) (b : Octets row) (f : faults (rowFields t)
 pub key-part : (t : Table) (bytes : List ℕ) {k : ℕ} → span (keyFields t) bytes ≡ k → take (k - 0) bytes ≡ rowKey t bytes
 key-part t bytes {k} e = let z : k - 0 ≡ span (keyFields t) bytes = omega arith in ap (λ n. take n bytes) z
 
-pub key-legal : (c : Operation) (t : Table) (bytes : List ℕ) → Octets bytes → faults (fieldsOf c t) bytes ≡ none → faults (keyFields t) (rowKey t bytes) ≡ none
-key-legal Put t bytes b f = front-whole t bytes b f
-key-legal Remove t bytes b f = rw (key-whole t bytes f) f
+pub key-legal : (s : Shape) (t : Table) (bytes : List ℕ) → Octets bytes → faults (fieldsOf s t) bytes ≡ none → faults (keyFields t) (rowKey t bytes) ≡ none
+key-legal Row t bytes b f = front-whole t bytes b f
+key-legal Key t bytes b f = rw (key-whole t bytes f) f
 
 -- it has the index of what is handed
-pub key-index : (c : Operation) (t : Table) (bytes : List ℕ) → Octets bytes → faults (fieldsOf c t) bytes ≡ none
+pub key-index : (s : Shape) (t : Table) (bytes : List ℕ) → Octets bytes → faults (fieldsOf s t) bytes ≡ none
     → indexOf t (rowKey t bytes) ≡ indexOf t bytes
-key-index Put t bytes b f = front-index t bytes b f
-key-index Remove t bytes b f = ap (indexOf t) (key-whole t bytes f)
+key-index Row t bytes b f = front-index t bytes b f
+key-index Key t bytes b f = ap (indexOf t) (key-whole t bytes f)

@@ -17,12 +17,14 @@ use Rattle.numbers.specs.Lists.{isNone}
 use Rattle.numbers.proofs.Bools.{split}
 use Rattle.numbers.proofs.Greatest.{Ascends, ascends-map, ascends-imp}
 use Rattle.numbers.proofs.Keeps.{every-all}
-use Rattle.rows.specs.declared.Operation.{Operation}
-use Rattle.rows.specs.declared.Operation.the-variants.{Put, Remove}
+use Rattle.edit_rules.specs.declared.Operation.{Operation}
+use Rattle.edit_rules.specs.declared.Operation.the-variants.{Put, Remove}
+use Rattle.rows.specs.declared.Shape.{Shape}
+use Rattle.rows.specs.declared.Shape.the-variants.{Row, Key}
 use Rattle.rows.specs.declared.Table.{Table}
 use Rattle.rows.specs.declared.Table.the-variants.{Context, Mapping, Access, View}
 use Rattle.rows.specs.Fields.{faults, span}
-use Rattle.rows.specs.Rows.{keyFields, rowFields, limit, contextOf, mappingOf, accessOf, viewOf, indexOf}
+use Rattle.rows.specs.Rows.{keyFields, rowFields, fieldsOf, limit, contextOf, mappingOf, accessOf, viewOf, indexOf}
 use Rattle.rows.specs.Tables.{Tables}
 use Rattle.rows.proofs.Inverse.{span-whole}
 use Rattle.numbers.specs.BigEndian.{Octets}
@@ -34,15 +36,15 @@ use Rattle.table_update.proofs.Stores.{rowKey}
 use Rattle.edit_rules.specs.declared.Edited.{Edited}
 use Rattle.edit_rules.specs.declared.Edited.the-variants.{Done, Barred, Faulty}
 use Rattle.edit_rules.specs.TableRows.{volatile, rowOf, rowIndex, storageOf, rowsOf, tablesOf, withRows}
-use Rattle.edit_rules.specs.Edits.{Outcome, outcome, editOf, fieldsOf, indexOfEdit, mayPut, heldFault, rowFault, comesIn, isFull, rowsAfter}
+use Rattle.edit_rules.specs.Edits.{Outcome, outcome, editOf, shapeOf, indexOfEdit, mayPut, heldFault, rowFault, comesIn, isFull, rowsAfter}
 use Rattle.edit_rules.specs.Edits.{applied, settled, faulted, edit, isContext}
 use Rattle.edit_rules.specs.Storage.{storageIn, placeFault, placed, fullAt}
 use Rattle.edit_rules.proofs.Storages.{row-storage, whole-held, storageFound}
 
 -- the rows that come into a table
-abbrev pub comes : Operation → List ℕ → List (List ℕ)
-comes Put bytes = bytes ∷ []
-comes Remove bytes = []
+abbrev pub comes : Shape → List ℕ → List (List ℕ)
+comes Row bytes = bytes ∷ []
+comes Key bytes = []
 
 -- what is left after an answer: the new, or the old as it was
 abbrev pub afterwards : Tables → Tables → Edited → Tables
@@ -60,7 +62,7 @@ unfolding mayPut
 absent-put new = refl
 
 fault-same : (strict : Bool) (o : Operation) (held : Bool) {old old′ new new′ : ℕ} → (strict ≡ true → held ≡ true → old ≡ old′)
-    → (strict ≡ true → o ≡ Put → new ≡ new′)
+    → (strict ≡ true → shapeOf o ≡ Row → new ≡ new′)
     → heldFault strict o (cond held (some old) none) new ≡ placeFault strict o held (cond held old′ volatile) new′
 fault-same false Put true p q = refl
 fault-same false Put false p q = refl
@@ -72,9 +74,10 @@ fault-same true Remove true p q = rw (p refl refl)
 fault-same true Remove false p q = refl
 
 -- a removal against which nothing stands is of a row that is held
-removal-held : (strict : Bool) (old new : ℕ) (held : Bool) → placeFault strict Remove held old new ≡ none → held ≡ true
-removal-held strict old new true e = refl
-removal-held strict old new false e = cc
+removal-held : (strict : Bool) (o : Operation) (old new : ℕ) (held : Bool) → shapeOf o ≡ Key → placeFault strict o held old new ≡ none → held ≡ true
+removal-held strict o old new true s e = refl
+removal-held strict Put old new false s e = cc
+removal-held strict Remove old new false s e = cc
 
 -- ---- one table
 
@@ -98,20 +101,20 @@ module _ {R : Type 0} (t : Table) (of : List ℕ → R) (indexR : R → List ℕ
   present-is = ap (λ u. not (isNone u)) held-is ∙ some-cond (isHeld key rs) (of found)
 
   fault-is : (storage : R → ℕ) (strict : Bool) (o : Operation) → (strict ≡ true → (r : List ℕ) → faults (rowFields t) r ≡ none → storage (of r) ≡ storageIn r)
-      → faults (fieldsOf o t) bytes ≡ none
+      → faults (fieldsOf (shapeOf o) t) bytes ≡ none
       → heldFault strict o (Option·map storage (rowAt indexR (indexOf t bytes) (map of rs))) (storage (of bytes))
       ≡ placeFault strict o (isHeld key rs) (storageFound key rs) (storageIn bytes)
   fault-is storage strict o q f =
       ap (λ u. heldFault strict o u (storage (of bytes))) (ap (Option·map storage) held-is ∙ map-cond storage (isHeld key rs) (of found))
       ∙ fault-same strict o (isHeld key rs) (λ y h. q y found (whole-held t key rs a h)) (λ y z. q y bytes (put-whole z))
     where
-      put-whole : o ≡ Put → faults (rowFields t) bytes ≡ none
+      put-whole : shapeOf o ≡ Row → faults (rowFields t) bytes ≡ none
       put-whole z = rw z at f
 
-  rows-are : (o : Operation) → (o ≡ Remove → isHeld key rs ≡ true)
-      → rowsAfter indexR o (of bytes) (indexOf t bytes) (map of rs) ≡ map of (exchanged (rowsBefore key rs) (oneIf (isHeld key rs)) (comes o bytes) rs)
-  rows-are Put h = sym (put-rows t of indexR e k bytes refl rs a)
-  rows-are Remove h = sym (removed-rows t of indexR e k rs a (h refl))
+  rows-are : (y : Shape) → (y ≡ Key → isHeld key rs ≡ true)
+      → rowsAfter indexR y (of bytes) (indexOf t bytes) (map of rs) ≡ map of (exchanged (rowsBefore key rs) (oneIf (isHeld key rs)) (comes y bytes) rs)
+  rows-are Row h = sym (put-rows t of indexR e k bytes refl rs a)
+  rows-are Key h = sym (removed-rows t of indexR e k rs a (h refl))
 
 -- ---- the four tables of rows in bytes
 
@@ -157,14 +160,15 @@ module _ (rs : Table → List (List ℕ)) where
 pub key-whole : (t : Table) (key : List ℕ) → faults (keyFields t) key ≡ none → rowKey t key ≡ key
 key-whole t key f = take-all (span (keyFields t) key) key (omega (arith, span-whole (keyFields t) key f))
 
-pub key-of : (c : Operation) (t : Table) (bytes : List ℕ) → Octets bytes → faults (fieldsOf c t) bytes ≡ none → KeyOf t (rowKey t bytes) (indexOf t bytes)
-key-of Put t bytes d f = key-of-row t bytes d f
-key-of Remove t bytes d f = rw (key-whole t bytes f) (key-of-key t bytes d f)
+pub key-of : (y : Shape) (t : Table) (bytes : List ℕ) → Octets bytes → faults (fieldsOf y t) bytes ≡ none → KeyOf t (rowKey t bytes) (indexOf t bytes)
+key-of Row t bytes d f = key-of-row t bytes d f
+key-of Key t bytes d f = rw (key-whole t bytes f) (key-of-key t bytes d f)
 
 -- ---- an edit of the four tables
 
 module _ (rs : Table → List (List ℕ)) (a : (t : Table) → Whole t (rs t)) (s : (t : Table) → Ascends (indexOf t) (rs t)) (strict : Bool) (t : Table)
-    (n : strict ≡ true → isContext t ≡ false) (bytes : List ℕ) (d : Octets bytes) (o : Operation) (f : faults (fieldsOf o t) bytes ≡ none) where
+    (n : strict ≡ true → isContext t ≡ false) (bytes : List ℕ) (d : Octets bytes) (o : Operation)
+    (f : faults (fieldsOf (shapeOf o) t) bytes ≡ none) where
   abbrev key : List ℕ
   key = rowKey t bytes
 
@@ -178,13 +182,13 @@ module _ (rs : Table → List (List ℕ)) (a : (t : Table) → Whole t (rs t)) (
   fullIn = fullAt o present (limit t) (length (rs t))
 
   abbrev pub after : Tables
-  after = changed t (rowsBefore key (rs t)) (oneIf present) (comes o bytes) rs
+  after = changed t (rowsBefore key (rs t)) (oneIf present) (comes (shapeOf o) bytes) rs
 
   fault-here : rowFault strict (tables rs) (editOf o t bytes) ≡ faultAt
   unfolding rowFault indexOfEdit
   fault-here =
       ap (λ us. heldFault strict o (Option·map (storageOf t) (rowAt (rowIndex t) (indexOf t bytes) us)) (storageOf t (rowOf t bytes))) (rows-in rs t)
-      ∙ fault-is t (rowOf t) (rowIndex t) (row-index t) (rs t) (a t) (s t) key bytes (key-of o t bytes d f) (storageOf t) strict o
+      ∙ fault-is t (rowOf t) (rowIndex t) (row-index t) (rs t) (a t) (s t) key bytes (key-of (shapeOf o) t bytes d f) (storageOf t) strict o
       (λ y. row-storage t (n y)) f
 
   full-here : isFull (tables rs) (editOf o t bytes) ≡ fullIn
@@ -192,18 +196,18 @@ module _ (rs : Table → List (List ℕ)) (a : (t : Table) → Whole t (rs t)) (
   full-here =
       ap (λ us. comesIn o (not (isNone (rowAt (rowIndex t) (indexOf t bytes) us))) && leb (limit t) (length us)) (rows-in rs t)
       ∙ ap₂ (λ b m. comesIn o b && leb (limit t) m)
-      (present-is t (rowOf t) (rowIndex t) (row-index t) (rs t) (a t) (s t) key bytes (key-of o t bytes d f)) (length-map (rs t) (rowOf t))
+      (present-is t (rowOf t) (rowIndex t) (row-index t) (rs t) (a t) (s t) key bytes (key-of (shapeOf o) t bytes d f)) (length-map (rs t) (rowOf t))
 
   applied-here : faultAt ≡ none → applied (tables rs) (editOf o t bytes) ≡ after
   unfolding applied indexOfEdit
   applied-here z =
-      ap (λ us. withRows t (tables rs) (rowsAfter (rowIndex t) o (rowOf t bytes) (indexOf t bytes) us)) (rows-in rs t)
+      ap (λ us. withRows t (tables rs) (rowsAfter (rowIndex t) (shapeOf o) (rowOf t bytes) (indexOf t bytes) us)) (rows-in rs t)
       ∙ ap (withRows t (tables rs))
-      (rows-are t (rowOf t) (rowIndex t) (row-index t) (rs t) (a t) (s t) key bytes (key-of o t bytes d f) o removed)
-      ∙ with-exchanged rs t (rowsBefore key (rs t)) (oneIf present) (comes o bytes)
+      (rows-are t (rowOf t) (rowIndex t) (row-index t) (rs t) (a t) (s t) key bytes (key-of (shapeOf o) t bytes d f) (shapeOf o) removed)
+      ∙ with-exchanged rs t (rowsBefore key (rs t)) (oneIf present) (comes (shapeOf o) bytes)
     where
-      removed : o ≡ Remove → present ≡ true
-      removed y = removal-held strict (storageFound key (rs t)) (storageIn bytes) present (rw y at z)
+      removed : shapeOf o ≡ Key → present ≡ true
+      removed y = removal-held strict o (storageFound key (rs t)) (storageIn bytes) present y z
 
   -- judged, then room, then applied
   settled-here : (g : Option Fault) → g ≡ faultAt

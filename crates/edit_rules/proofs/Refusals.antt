@@ -7,8 +7,8 @@ use Rattle.answers.specs.declared.Decision.{Decision}
 use Rattle.answers.specs.declared.Decision.the-variants.{Refused}
 use Rattle.rows.specs.declared.Table.{Table}
 use Rattle.rows.specs.declared.Table.the-variants.{Context, Mapping, Access, View}
-use Rattle.rows.specs.declared.Operation.{Operation}
-use Rattle.rows.specs.declared.Operation.the-variants.{Put, Remove}
+use Rattle.rows.specs.declared.Shape.{Shape}
+use Rattle.rows.specs.declared.Shape.the-variants.{Row, Key}
 use Rattle.edit_rules.specs.Edits.{columnsWritten, ifAllowed, firstRefusal}
 
 pub refusals-same : {f g : ℕ → Decision} → ((column : ℕ) → f column ≡ g column) → (columns : List ℕ) → firstRefusal f columns ≡ firstRefusal g columns
@@ -24,13 +24,13 @@ pub record Begins (columns : List ℕ) : Type 0 where
 begins : (first : ℕ) (others : List ℕ) → Begins (first ∷ others)
 begins first others = record { first = first; others = others; is = refl }
 
-pub written-begin : (o : Operation) (t : Table) → Begins (columnsWritten o t)
-written-begin Put Context = begins _ _
-written-begin Put Mapping = begins _ _
-written-begin Put Access = begins _ _
-written-begin Put View = begins _ _
-written-begin Remove t = begins _ _
+pub written-begin : (s : Shape) (t : Table) → Begins (columnsWritten s t)
+written-begin Row Context = begins _ _
+written-begin Row Mapping = begins _ _
+written-begin Row Access = begins _ _
+written-begin Row View = begins _ _
+written-begin Key t = begins _ _
 
-pub all-refused : (f : ℕ → Decision) {cause : Cause} → ((column : ℕ) → Refused cause ≡ f column) → (o : Operation) (t : Table)
-    → Refused cause ≡ firstRefusal f (columnsWritten o t)
-all-refused f {cause} h o t = let b = written-begin o t in rw (b .is, ← (h (b .first)))
+pub all-refused : (f : ℕ → Decision) {cause : Cause} → ((column : ℕ) → Refused cause ≡ f column) → (s : Shape) (t : Table)
+    → Refused cause ≡ firstRefusal f (columnsWritten s t)
+all-refused f {cause} h s t = let b = written-begin s t in rw (b .is, ← (h (b .first)))

@@ -5,7 +5,7 @@ use mathlib.Core.List.{List}
 use Prim.Native.Nat.{ℕ, _<_}
 use Rattle.answers.specs.declared.Cause.{Cause}
 use Rattle.answers.specs.declared.Decision.the-variants.{Allowed, Refused}
-use Rattle.rows.specs.declared.Operation.the-variants.{Put, Remove}
+use Rattle.rows.specs.declared.Shape.the-variants.{Row, Key}
 use Rattle.rows.specs.declared.Table.{Table}
 use Rattle.rows.specs.Tables.{Tables}
 use Rattle.instance_encode.specs.Instances.{lists, statusColumn}
@@ -20,9 +20,9 @@ pub record FirstMet (ts : Tables) (c : Caller) (t : Table) (index : List ℕ) (c
 
 pub record EveryColumnCounts : Type 0 where
   -- "A principal's put is .. judged at every column of the row's table listed in document 01"
-  pub put-allowed : (ts : Tables) (c : Caller) (t : Table) (index : List ℕ) → judgementAt ts c Put t index ≡ Allowed
+  pub put-allowed : (ts : Tables) (c : Caller) (t : Table) (index : List ℕ) → judgementAt ts c Row t index ≡ Allowed
       → (column : ℕ) → lists t column ≡ true → columnJudged ts c t index column ≡ Allowed
-  pub put-refused : (ts : Tables) (c : Caller) (t : Table) (index : List ℕ) {cause : Cause} → judgementAt ts c Put t index ≡ Refused cause
+  pub put-refused : (ts : Tables) (c : Caller) (t : Table) (index : List ℕ) {cause : Cause} → judgementAt ts c Row t index ≡ Refused cause
       → FirstMet ts c t index cause
   -- "a removal stays with the status column"
-  pub removal : (ts : Tables) (c : Caller) (t : Table) (index : List ℕ) → judgementAt ts c Remove t index ≡ columnJudged ts c t index (statusColumn t)
+  pub removal : (ts : Tables) (c : Caller) (t : Table) (index : List ℕ) → judgementAt ts c Key t index ≡ columnJudged ts c t index (statusColumn t)

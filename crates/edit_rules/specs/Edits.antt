@@ -11,16 +11,18 @@ use Rattle.answers.specs.declared.Decision.the-variants.{Allowed, Refused}
 use Rattle.answers.specs.declared.Fault.{Fault}
 use Rattle.answers.specs.declared.Fault.the-variants.{TableFull, RowAbsent, StorageForbids}
 use Rattle.answers.specs.Numbers.{causeNumber, faultNumber}
+use Rattle.rows.specs.declared.Shape.{Shape}
+use Rattle.rows.specs.declared.Shape.the-variants.{Row, Key}
 use Rattle.rows.specs.declared.Table.{Table}
 use Rattle.rows.specs.declared.Table.the-variants.{Context, Mapping, Access, View}
-use Rattle.rows.specs.Fields.{Field, faults, orElse, within}
-use Rattle.rows.specs.Rows.{keyFields, rowFields, limit, modelMax, indexOf}
+use Rattle.rows.specs.Fields.{faults, orElse, within}
+use Rattle.rows.specs.Rows.{fieldsOf, limit, modelMax, indexOf}
 use Rattle.rows.specs.Tables.{Tables}
 use Rattle.numbers.specs.Lists.{isNone}
 use Rattle.decision_steps.specs.Request.{asked, longestName, noAuthNoPriv, authPriv, write}
 use Rattle.decision_steps.specs.Decision.{decision}
-use Rattle.rows.specs.declared.Operation.{Operation}
-use Rattle.rows.specs.declared.Operation.the-variants.{Put, Remove}
+use Rattle.edit_rules.specs.declared.Operation.{Operation}
+use Rattle.edit_rules.specs.declared.Operation.the-variants.{Put, Remove}
 use Rattle.edit_rules.specs.declared.Edited.{Edited}
 use Rattle.edit_rules.specs.declared.Edited.the-variants.{Done, Barred, Faulty}
 use Rattle.edit_rules.specs.TableRows.{permanent, readOnly, RowOf, rowOf, rowIndex, storageOf, rowsOf, withRows}
@@ -37,14 +39,14 @@ pub record Edit : Type 0 where
 abbrev pub editOf : Operation → Table → List ℕ → Edit
 editOf o t bytes = record { operation = o; table = t; bytes = bytes }
 
--- the fields of what is handed: a row is put, the row of a key is removed
-abbrev pub fieldsOf : Operation → Table → List Field
-fieldsOf Put t = rowFields t
-fieldsOf Remove t = keyFields t
+-- what is handed: a row is put, the row of a key is removed
+abbrev pub shapeOf : Operation → Shape
+shapeOf Put = Row
+shapeOf Remove = Key
 
 -- whole bytes, each field in range
 unfoldable pub legalEdit : Edit → Bool
-legalEdit e = isNone (faults (fieldsOf (e .operation) (e .table)) (e .bytes))
+legalEdit e = isNone (faults (fieldsOf (shapeOf (e .operation)) (e .table)) (e .bytes))
 
 -- the index of the row that an edit is of, and that row among those held
 unfoldable pub indexOfEdit : Edit → List ℕ
@@ -71,10 +73,10 @@ unfoldable pub mayRemove : ℕ → Bool
 mayRemove old = not (isFixed old)
 
 -- by the storage of the row held, if one is, and that of the row put
-abbrev pub storageLets : Operation → Option ℕ → ℕ → Bool
-storageLets Put old new = mayPut old new
-storageLets Remove none new = true
-storageLets Remove (some old) new = mayRemove old
+abbrev pub storageLets : Shape → Option ℕ → ℕ → Bool
+storageLets Row old new = mayPut old new
+storageLets Key none new = true
+storageLets Key (some old) new = mayRemove old
 
 -- ---- an edit judged by the row held, if one is: 10, then 11
 
@@ -87,7 +89,7 @@ absentFault Remove false = some RowAbsent
 -- strict: by a principal, to whom the storage rules apply
 abbrev pub heldFault : Bool → Operation → Option ℕ → ℕ → Option Fault
 heldFault strict o old new =
-    orElse (absentFault o (not (isNone old))) (cond (strict && not (storageLets o old new)) (some StorageForbids) none)
+    orElse (absentFault o (not (isNone old))) (cond (strict && not (storageLets (shapeOf o) old new)) (some StorageForbids) none)
 
 unfoldable pub rowFault : Bool → Tables → Edit → Option Fault
 rowFault strict ts e =
@@ -104,14 +106,14 @@ isFull ts e = comesIn (e .operation) (isPresent ts e) && leb (limit (e .table)) 
 
 -- ---- an edit applied: the row put or gone, the other tables as they were
 
-abbrev pub rowsAfter : {R : Type 0} → (R → List ℕ) → Operation → R → List ℕ → List R → List R
-rowsAfter indexOf Put r i rs = putRow indexOf r rs
-rowsAfter indexOf Remove r i rs = removeRow indexOf i rs
+abbrev pub rowsAfter : {R : Type 0} → (R → List ℕ) → Shape → R → List ℕ → List R → List R
+rowsAfter indexOf Row r i rs = putRow indexOf r rs
+rowsAfter indexOf Key r i rs = removeRow indexOf i rs
 
 unfoldable pub applied : Tables → Edit → Tables
 applied ts e =
     withRows (e .table) ts
-    (rowsAfter (rowIndex (e .table)) (e .operation) (rowOf (e .table) (e .bytes)) (indexOfEdit e) (rowsOf (e .table) ts))
+    (rowsAfter (rowIndex (e .table)) (shapeOf (e .operation)) (rowOf (e .table) (e .bytes)) (indexOfEdit e) (rowsOf (e .table) ts))
 
 -- ---- what is answered, and the tables that stand afterwards
 
@@ -164,9 +166,9 @@ isContext View = false
 -- ---- what the tables let a principal edit: a write request in the empty context at each column that is written; the first refusal is the answer
 
 -- a put writes every column that document 01 lists, also where the row held has the value already; a removal writes the status
-abbrev pub columnsWritten : Operation → Table → List ℕ
-columnsWritten Put t = columns t
-columnsWritten Remove t = statusColumn t ∷ []
+abbrev pub columnsWritten : Shape → Table → List ℕ
+columnsWritten Row t = columns t
+columnsWritten Key t = statusColumn t ∷ []
 
 -- at a column of the row with this index
 abbrev pub columnJudged : Tables → Caller → Table → List ℕ → ℕ → Decision
@@ -181,8 +183,8 @@ abbrev pub firstRefusal : (ℕ → Decision) → List ℕ → Decision
 firstRefusal judged [] = Allowed
 firstRefusal judged (column ∷ columns) = ifAllowed (judged column) (firstRefusal judged columns)
 
-unfoldable pub judgementAt : Tables → Caller → Operation → Table → List ℕ → Decision
-judgementAt ts c o t index = firstRefusal (columnJudged ts c t index) (columnsWritten o t)
+unfoldable pub judgementAt : Tables → Caller → Shape → Table → List ℕ → Decision
+judgementAt ts c s t index = firstRefusal (columnJudged ts c t index) (columnsWritten s t)
 
 abbrev pub judgement : Tables → Caller → Edit → Decision
-judgement ts c e = judgementAt ts c (e .operation) (e .table) (indexOfEdit e)
+judgement ts c e = judgementAt ts c (shapeOf (e .operation)) (e .table) (indexOfEdit e)

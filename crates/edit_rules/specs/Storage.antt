@@ -8,14 +8,15 @@ use lib.Dec.{leb}
 use lib.ListN.{length, take, drop, getD}
 use Rattle.answers.specs.declared.Fault.{Fault}
 use Rattle.answers.specs.declared.Fault.the-variants.{TableFull, StorageForbids}
+use Rattle.rows.specs.declared.Shape.{Shape}
+use Rattle.rows.specs.declared.Shape.the-variants.{Row, Key}
 use Rattle.rows.specs.Fields.{orElse}
 use Rattle.table_update.specs.declared.Place.{Place}
-use Rattle.rows.specs.declared.Operation.{Operation}
-use Rattle.rows.specs.declared.Operation.the-variants.{Put, Remove}
+use Rattle.edit_rules.specs.declared.Operation.{Operation}
 use Rattle.edit_rules.specs.declared.Edited.{Edited}
 use Rattle.edit_rules.specs.declared.Edited.the-variants.{Done, Faulty}
 use Rattle.edit_rules.specs.TableRows.{volatile}
-use Rattle.edit_rules.specs.Edits.{mayPut, mayRemove, absentFault, comesIn}
+use Rattle.edit_rules.specs.Edits.{shapeOf, mayPut, mayRemove, absentFault, comesIn}
 
 -- the last octet but one of a mapping, access or view row
 abbrev pub storageIn : List ℕ → ℕ
@@ -26,22 +27,22 @@ abbrev pub StorageIn : List ℕ → Place → Type 0
 StorageIn w p = p .present ≡ true → (p .from + 2 ≤ p .end) × (p .end ≤ length w)
 
 -- what a rule of storage reads is there: the storage of the row held, and of the row put
-pub record StorageKnown (o : Operation) (w : List ℕ) (p : Place) (bytes : List ℕ) : Type 0 where
+pub record StorageKnown (s : Shape) (w : List ℕ) (p : Place) (bytes : List ℕ) : Type 0 where
   pub of-held : StorageIn w p
-  pub of-put : o ≡ Put → 2 ≤ length bytes
+  pub of-put : s ≡ Row → 2 ≤ length bytes
 
 -- where none is held, volatile, which lets everything be done that may be done where there is no row
 abbrev pub storageAt : List ℕ → Place → ℕ
 storageAt w p = cond (p .present) (storageIn (take (p .end - p .from) (drop (p .from) w))) volatile
 
 -- whether a row of storage `old` may be changed, by a row of storage `new` where one is put
-abbrev pub mayChange : Operation → ℕ → ℕ → Bool
-mayChange Put old new = mayPut (some old) new
-mayChange Remove old new = mayRemove old
+abbrev pub mayChange : Shape → ℕ → ℕ → Bool
+mayChange Row old new = mayPut (some old) new
+mayChange Key old new = mayRemove old
 
 -- what stands against an edit at the place of its key: 10, then 11
 abbrev pub placeFault : Bool → Operation → Bool → ℕ → ℕ → Option Fault
-placeFault strict o present old new = orElse (absentFault o present) (cond (strict && not (mayChange o old new)) (some StorageForbids) none)
+placeFault strict o present old new = orElse (absentFault o present) (cond (strict && not (mayChange (shapeOf o) old new)) (some StorageForbids) none)
 
 -- then 9, in a table of so many rows
 abbrev pub placed : Option Fault → Bool → Edited

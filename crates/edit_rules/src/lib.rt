@@ -1,13 +1,30 @@
-// The rules of an edit, in specs/: what it may be, what it is answered, what the storage of a row lets a principal do, and what the tables let it do. The
-// answer of an edit, and who makes it.
+// The rules of an edit, in specs/: what it may be, what it is answered, what the storage of a row lets a principal do, and what the tables let it do. What
+// an edit does, its answer, and who makes it.
 use answers::Cause;
 use answers::Fault;
 use decision::AUTH_PRIV;
 use decision::LONGEST_NAME;
 use decision::NO_AUTH_NO_PRIV;
 use rows::MODEL_MAX;
+use rows::Shape;
 ghost use mathlib.Core.Path.{_≡_};
-ghost use Rattle.edit_rules.specs.Edits.{legalCaller, callerOf};
+ghost use Rattle.edit_rules.specs.Edits.{shapeOf, legalCaller, callerOf};
+
+// What an edit does with a row.
+pub enum Operation {
+    Put,
+    Remove,
+}
+
+// What an edit is handed: the row to put, or the key of the row to remove.
+pub fn shape_of(o: Operation) -> Shape
+    ensures { λ r. ⌜ r ≡ shapeOf o ⌝ }
+{
+    match o {
+        Operation::Put => Shape::Row,
+        Operation::Remove => Shape::Key,
+    }
+}
 
 // The answer of an edit.
 pub enum Edited {

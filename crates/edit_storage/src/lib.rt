@@ -1,5 +1,5 @@
 // What the storage of a row lets a principal do with it.
-use rows::Operation;
+use rows::Shape;
 use table_update::Place;
 ghost use mathlib.Core.Path.{_≡_};
 ghost use mathlib.Core.Option.{some};
@@ -58,13 +58,13 @@ fn may_replace(old: u8, new: u8) -> bool
 }
 
 // The storage of the row held, and of the row put, lets a principal make the change.
-pub fn may_change(w: &[u8], c: Operation, p: Place, bytes: &[u8]) -> bool
-    requires { ⌜ StorageKnown c (now w) p (now bytes) ⌝ }
-    ensures { λ r. ⌜ r ≡ mayChange c (storageAt (now (w .entry)) p) (storageIn (now (bytes .entry))) ⌝ }
+pub fn may_change(w: &[u8], s: Shape, p: Place, bytes: &[u8]) -> bool
+    requires { ⌜ StorageKnown s (now w) p (now bytes) ⌝ }
+    ensures { λ r. ⌜ r ≡ mayChange s (storageAt (now (w .entry)) p) (storageIn (now (bytes .entry))) ⌝ }
 {
     let old = held_storage(w, p);
-    match c {
-        Operation::Put => may_replace(old, storage(bytes)),
-        Operation::Remove => !is_fixed(old),
+    match s {
+        Shape::Row => may_replace(old, storage(bytes)),
+        Shape::Key => !is_fixed(old),
     }
 }

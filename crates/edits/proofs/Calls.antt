@@ -16,16 +16,16 @@ use Rattle.numbers.specs.Lists.{isNone}
 use Rattle.numbers.proofs.Bools.{split, cond-false, and-false-left, and-false-right}
 use Rattle.rows.specs.declared.Table.{Table}
 use Rattle.rows.specs.Fields.{faults, span}
-use Rattle.rows.specs.Rows.{keyFields}
+use Rattle.rows.specs.Rows.{keyFields, fieldsOf}
 use Rattle.rows.specs.Tables.{Tables}
 use Rattle.image_layout.specs.declared.Layout.{Layout}
 use Rattle.image_layout.specs.Layout.{layoutOf}
 use Rattle.image_judge.specs.Faults.{tablesAt}
 use Rattle.image.specs.Store.{isSound}
-use Rattle.rows.specs.declared.Operation.{Operation}
+use Rattle.edit_rules.specs.declared.Operation.{Operation}
 use Rattle.edit_rules.specs.declared.Edited.{Edited}
 use Rattle.edit_rules.specs.declared.Edited.the-variants.{Barred, Faulty}
-use Rattle.edit_rules.specs.Edits.{Edit, Caller, editOf, fieldsOf, edit, legalCaller, legalEdit, judgement, isContext}
+use Rattle.edit_rules.specs.Edits.{Edit, Caller, editOf, shapeOf, edit, legalCaller, legalEdit, judgement, isContext}
 use Rattle.edit_rules.specs.Edits.{Outcome, outcome, rowFault, faulted, settled}
 use Rattle.edits.specs.Calls.{allowed, ownerJudged, principalJudged, ownerEdit, principalEdit, OwnerEdits, PrincipalEdits, prepared}
 use Rattle.edit_rules.proofs.Outcomes.{tables}
@@ -37,7 +37,7 @@ use Rattle.edits.specs.declared.Prepared.the-variants.{Ready, Unready}
 
 -- ---- what is handed
 
-pub legal-is : (c : Operation) (t : Table) (bytes : List ℕ) → legalEdit (editOf c t bytes) ≡ isNone (faults (fieldsOf c t) bytes)
+pub legal-is : (c : Operation) (t : Table) (bytes : List ℕ) → legalEdit (editOf c t bytes) ≡ isNone (faults (fieldsOf (shapeOf c) t) bytes)
 unfolding legalEdit
 legal-is c t bytes = refl
 
@@ -58,16 +58,16 @@ module _ (c : Operation) (t : Table) (w bytes : List ℕ) where
       → (isSound w ≡ true) × (legalEdit (editOf c t bytes) ≡ true) × (l ≡ layoutOf w) × (k ≡ span (keyFields t) bytes)
   ready e = ready-is (isSound w) (legalEdit (editOf c t bytes)) (layoutOf w) (span (keyFields t) bytes) e
 
-  pub ready-whole : legalEdit (editOf c t bytes) ≡ true → faults (fieldsOf c t) bytes ≡ none
-  ready-whole m = none-is (faults (fieldsOf c t) bytes) (sym (legal-is c t bytes) ∙ m)
+  pub ready-whole : legalEdit (editOf c t bytes) ≡ true → faults (fieldsOf (shapeOf c) t) bytes ≡ none
+  ready-whole m = none-is (faults (fieldsOf (shapeOf c) t) bytes) (sym (legal-is c t bytes) ∙ m)
 
   pub prepared-unsound : isSound w ≡ false → Unready NotSound ≡ prepared w c t bytes
   prepared-unsound a = sym (cond-false _ _ a)
 
-  pub prepared-illegal : isSound w ≡ true → {g : Fault} → faults (fieldsOf c t) bytes ≡ some g → Unready OutOfRange ≡ prepared w c t bytes
+  pub prepared-illegal : isSound w ≡ true → {g : Fault} → faults (fieldsOf (shapeOf c) t) bytes ≡ some g → Unready OutOfRange ≡ prepared w c t bytes
   prepared-illegal a f = rw (a, legal-is c t bytes, f)
 
-  pub prepared-ready : isSound w ≡ true → faults (fieldsOf c t) bytes ≡ none → {l : Layout} {k : ℕ} → l ≡ layoutOf w → span (keyFields t) bytes ≡ k
+  pub prepared-ready : isSound w ≡ true → faults (fieldsOf (shapeOf c) t) bytes ≡ none → {l : Layout} {k : ℕ} → l ≡ layoutOf w → span (keyFields t) bytes ≡ k
       → Ready l k ≡ prepared w c t bytes
   prepared-ready a f q e = rw (a, legal-is c t bytes, f, q, e)
 

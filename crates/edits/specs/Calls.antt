@@ -1,5 +1,5 @@
 -- The owner's and the principals' edits in full (document 01, "Edits" and "Where each number is met"), and what the calls promise. Assumes nothing.
-use mathlib.Core.Bool.{Bool, true, false, cond, _&&_}
+use mathlib.Core.Bool.{true, false, cond, _&&_}
 use mathlib.Core.List.{List}
 use Prim.Native.Nat.{ℕ}
 use Rattle.answers.specs.declared.Decision.{Decision}
@@ -11,7 +11,7 @@ use Rattle.rows.specs.Rows.{keyFields}
 use Rattle.rows.specs.Tables.{Tables}
 use Rattle.image_layout.specs.Layout.{layoutOf}
 use Rattle.image.specs.Store.{isSound}
-use Rattle.rows.specs.declared.Operation.{Operation}
+use Rattle.edit_rules.specs.declared.Operation.{Operation}
 use Rattle.edit_rules.specs.declared.Edited.{Edited}
 use Rattle.edit_rules.specs.declared.Edited.the-variants.{Done, Barred, Faulty}
 use Rattle.edit_rules.specs.Edits.{Outcome, Edit, Caller, editOf, legalCaller, legalEdit, judgement, isContext, rowFault, faulted, settled}

@@ -2,16 +2,17 @@
 use answers::Fault;
 use edit_rights::Admission;
 use edit_rules::Edited;
+use edit_rules::Operation;
 use image_judge::Surveyed;
 use image_layout::Layout;
-use rows::Operation;
+use rows::Shape;
 use rows::Step;
 use rows::Table;
 ghost use mathlib.Core.Path.{_≡_};
 ghost use Rattle.rows.specs.Fields.{faults, span};
-ghost use Rattle.rows.specs.Rows.{keyFields};
+ghost use Rattle.rows.specs.Rows.{keyFields, fieldsOf};
 ghost use Rattle.rows.specs.Steps.{reached};
-ghost use Rattle.edit_rules.specs.Edits.{editOf, fieldsOf, callerOf};
+ghost use Rattle.edit_rules.specs.Edits.{editOf, shapeOf, callerOf};
 ghost use Rattle.edits.specs.Calls.{OwnerEdits, PrincipalEdits, editedNumber, prepared};
 
 // The number of an edit's answer.
@@ -26,11 +27,11 @@ pub fn edited_number(e: Edited) -> u32
 }
 
 fn judge_change(c: Operation, t: Table, bytes: &[u8]) -> Step
-    ensures { λ r. ⌜ r ≡ reached (faults (fieldsOf c t) (now (bytes .entry))) (span (keyFields t) (now (bytes .entry))) ⌝ }
+    ensures { λ r. ⌜ r ≡ reached (faults (fieldsOf (shapeOf c) t) (now (bytes .entry))) (span (keyFields t) (now (bytes .entry))) ⌝ }
 {
-    match c {
-        Operation::Put => rows::judge(t, bytes),
-        Operation::Remove => rows::judge_key(t, bytes),
+    match edit_rules::shape_of(c) {
+        Shape::Row => rows::judge(t, bytes),
+        Shape::Key => rows::judge_key(t, bytes),
     }
 }
 
@@ -92,7 +93,7 @@ pub fn principal_edit(
                 security_model,
                 security_name,
                 security_level,
-                c,
+                edit_rules::shape_of(c),
                 t,
                 key,
             );

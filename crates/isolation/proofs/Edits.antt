@@ -13,8 +13,8 @@ use lib.ListN.{length}
 use borrow.Author.Tests.{leb-false, lt-leb}
 use Rattle.numbers.specs.Lists.{keep, isNone}
 use Rattle.numbers.proofs.Bools.{split, clash, and-left, and-right, and-both, and-false-or, and-false-left, and-false-right, or-right}
-use Rattle.rows.specs.declared.Operation.{Operation}
-use Rattle.rows.specs.declared.Operation.the-variants.{Put, Remove}
+use Rattle.edit_rules.specs.declared.Operation.{Operation}
+use Rattle.edit_rules.specs.declared.Operation.the-variants.{Put, Remove}
 use Rattle.rows.specs.declared.Table.{Table}
 use Rattle.rows.specs.declared.Table.the-variants.{Context, Mapping, Access, View}
 use Rattle.rows.specs.Rows.{limit}
@@ -23,10 +23,10 @@ use Rattle.table_update.specs.Tables.{rowAt}
 use Rattle.edit_rules.specs.declared.Edited.{Edited}
 use Rattle.edit_rules.specs.declared.Edited.the-variants.{Done, Barred, Faulty}
 use Rattle.edit_rules.specs.TableRows.{RowOf, rowOf, rowIndex, storageOf, rowsOf, withRows}
-use Rattle.edit_rules.specs.Edits.{Edit, Outcome, outcome, indexOfEdit, rowHeld, heldFault, rowFault, comesIn, isFull, rowsAfter, applied, settled}
+use Rattle.edit_rules.specs.Edits.{Edit, Outcome, outcome, shapeOf, indexOfEdit, rowHeld, heldFault, rowFault, comesIn, isFull, rowsAfter, applied, settled}
 use Rattle.edit_rules.proofs.Outcomes.{row-index}
 use Rattle.edits.specs.Calls.{editedNumber}
-use Rattle.isolation.specs.Isolation.{Circle, rowIn, ofCircle, implies, handsRow, handsSuch, mapsToGroup, givesChosen}
+use Rattle.isolation.specs.Isolation.{Circle, rowIn, ofCircle, implies, isRow, handsRow, handsSuch, mapsToGroup, givesChosen}
 use Rattle.isolation.proofs.Tables.{length-keep, rowAt-keep, keep-after-in, keep-after-out, ascends-after, every-after}
 use Rattle.isolation.proofs.Circles.{implied, circleRows, rows-circle, with-circle, key-same, rowFits, Orderly, orderly-at, orderly-with}
 
@@ -44,12 +44,12 @@ settled-refused (Barred c) ts e h = refl
 settled-refused (Faulty f) ts e h = refl
 
 -- where a row comes in, one is handed
-comes-hands : (o : Operation) (b : Bool) → comesIn o b ≡ true → handsRow o ≡ true
+comes-hands : (o : Operation) (b : Bool) → comesIn o b ≡ true → isRow (shapeOf o) ≡ true
 comes-hands Put b e = refl
 comes-hands Remove b e = clash e refl
 
 -- an edit that is not answered 'table full' finds room
-found-room : (ts : Tables) (e : Edit) → implies (handsRow (e .operation)) (not (eqb (editedNumber (settled Done ts e .answer)) 9)) ≡ true → isFull ts e ≡ false
+found-room : (ts : Tables) (e : Edit) → implies (handsRow e) (not (eqb (editedNumber (settled Done ts e .answer)) 9)) ≡ true → isFull ts e ≡ false
 unfolding isFull
 found-room ts e h =
     split (isFull ts e)
@@ -114,13 +114,14 @@ module _ (w : Circle) where
         unfolding applied
         applied-circle =
             let t = e .table in
-            let after = rowsAfter (rowIndex t) (e .operation) (rowOf t (e .bytes)) (indexOfEdit e) in
+            let after = rowsAfter (rowIndex t) (shapeOf (e .operation)) (rowOf t (e .bytes)) (indexOfEdit e) in
             ap (withRows t (circleRows w ts))
             (ap after (rows-circle w t ts)
-            ∙ sym (keep-after-in (rowIndex t) (rowIn w t) (e .operation) _ (indexOfEdit e) (rowsOf t ts) own-index (at-index h) (orderly-at w t i .0)))
+            ∙ sym (keep-after-in (rowIndex t) (rowIn w t) (shapeOf (e .operation)) _ (indexOfEdit e) (rowsOf t ts) own-index (at-index h)
+            (orderly-at w t i .0)))
             ∙ with-circle w t ts (after (rowsOf t ts))
 
-        pub settled-in : (v : Edited) → implies (handsRow (e .operation)) (not (eqb (editedNumber (settled v ts e .answer)) 9)) ≡ true
+        pub settled-in : (v : Edited) → implies (handsRow e) (not (eqb (editedNumber (settled v ts e .answer)) 9)) ≡ true
             → settled v (circleRows w ts) e ≡ circleOf (settled v ts e)
         settled-in Done q = let f = found-room ts e q in rw (f, full-circle f, applied-circle)
         settled-in (Barred c) q = refl
@@ -133,7 +134,8 @@ module _ (w : Circle) where
     applied-out h =
         let t = e .table in
         sym (with-circle w t ts _)
-        ∙ ap (withRows t (circleRows w ts)) (keep-after-out (rowIndex t) (rowIn w t) (e .operation) _ (indexOfEdit e) (rowsOf t ts) own-index (at-index h))
+        ∙ ap (withRows t (circleRows w ts))
+        (keep-after-out (rowIndex t) (rowIn w t) (shapeOf (e .operation)) _ (indexOfEdit e) (rowsOf t ts) own-index (at-index h))
         ∙ with-circle w t ts (rowsOf t ts)
         ∙ ap (circleRows w) (own-rows t ts)
 
@@ -146,14 +148,14 @@ module _ (w : Circle) where
     fits = implies of (handsSuch (mapsToGroup w) e && handsSuch (givesChosen w) e)
 
     -- the row that it hands
-    row-fits : fits ≡ true → handsRow (e .operation) ≡ true → rowFits w (e .table) (rowOf (e .table) (e .bytes)) ≡ true
+    row-fits : fits ≡ true → handsRow e ≡ true → rowFits w (e .table) (rowOf (e .table) (e .bytes)) ≡ true
     row-fits f h =
         let r = rowOf (e .table) (e .bytes) in
         split of
         (λ o.
         let g = implied of _ f o in
-        let m : mapsToGroup w (e .table) r ≡ true = implied (handsRow (e .operation)) _ (and-left _ _ g) h in
-        let c : givesChosen w (e .table) r ≡ true = implied (handsRow (e .operation)) _ (and-right (handsSuch (mapsToGroup w) e) _ g) h in
+        let m : mapsToGroup w (e .table) r ≡ true = implied (handsRow e) _ (and-left _ _ g) h in
+        let c : givesChosen w (e .table) r ≡ true = implied (handsRow e) _ (and-right (handsSuch (mapsToGroup w) e) _ g) h in
         or-right (not (rowIn w (e .table) r)) (and-both m c))
         (λ o. rw (at-index o r (sym own-index)))
 
@@ -164,6 +166,6 @@ module _ (w : Circle) where
         let a = orderly-at w t i in
         settled-either (Orderly w) v ts e i
         (orderly-with w t _ i (
-          ascends-after (rowIndex t) (e .operation) _ (indexOfEdit e) (rowsOf t ts) (a .0),
-          every-after (rowIndex t) (rowFits w t) (e .operation) _ (indexOfEdit e) (rowsOf t ts) (row-fits f) (a .1),
+          ascends-after (rowIndex t) (shapeOf (e .operation)) _ (indexOfEdit e) (rowsOf t ts) (a .0),
+          every-after (rowIndex t) (rowFits w t) (shapeOf (e .operation)) _ (indexOfEdit e) (rowsOf t ts) (row-fits f) (a .1),
         ))

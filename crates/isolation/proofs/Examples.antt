@@ -25,7 +25,7 @@ use Rattle.image.specs.Store.{room, soundRows, isSound, held}
 use Rattle.decision_steps.specs.Request.{asked, legalRequest}
 use Rattle.decision_steps.specs.Decision.{bearsContext, mapsPrincipal, contextFits, candidate, chosenAccess, viewFor, inView, maskBit, agrees, matches}
 use Rattle.decision_steps.specs.Decision.{chosenView, decision, authority}
-use Rattle.rows.specs.declared.Operation.the-variants.{Put, Remove}
+use Rattle.edit_rules.specs.declared.Operation.the-variants.{Put, Remove}
 use Rattle.edit_rules.specs.Edits.{Edit, editOf, Caller, indexOfEdit, legalEdit, mayPut, mayRemove, rowFault, isFull, applied, legalCaller, judgementAt}
 use Rattle.walk_rules.specs.Walk.{walkOn, legalWalk, nextInstance, follows, mayRead, least}
 use Rattle.edits.specs.Calls.{ownerJudged, ownerEdit, principalJudged, principalEdit}

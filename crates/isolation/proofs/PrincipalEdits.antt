@@ -11,7 +11,8 @@ use Rattle.rows.specs.Tables.{Tables}
 use Rattle.decision_steps.specs.Request.{asked, write}
 use Rattle.instance_encode.specs.Instances.{instance}
 use Rattle.edit_rules.specs.declared.Edited.the-variants.{Faulty}
-use Rattle.edit_rules.specs.Edits.{Edit, Caller, indexOfEdit, legalEdit, legalCaller, isContext, columnsWritten, judgementAt, judgement, faulted, settled}
+use Rattle.edit_rules.specs.Edits.{Edit, Caller, shapeOf, indexOfEdit, legalEdit, legalCaller, isContext, columnsWritten, judgementAt, judgement}
+use Rattle.edit_rules.specs.Edits.{faulted, settled}
 use Rattle.edit_rules.proofs.Refusals.{refusals-same}
 use Rattle.edits.specs.Calls.{allowed, principalJudged, principalEdit}
 use Rattle.edits.specs.Does.{by, edited}
@@ -27,7 +28,7 @@ module _ (w : Circle) (t : Tables) (c : Caller) (e : Edit) where
       refusals-same
       (λ column. decision-keep w t i
       (asked (c .securityModel) (c .securityName) (c .securityLevel) write [] (instance (e .table) column (indexOfEdit e))) m)
-      (columnsWritten (e .operation) (e .table))
+      (columnsWritten (shapeOf (e .operation)) (e .table))
 
   judged-circle : Orderly w t → isMember w c ≡ true → ofCircle w e ≡ true → principalJudged (circleRows w t) c e ≡ principalJudged t c e
   unfolding principalJudged

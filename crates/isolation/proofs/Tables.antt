@@ -16,11 +16,11 @@ use Rattle.numbers.proofs.Orders.{same-true, same-sym, before-not-same, before-
 use Rattle.numbers.proofs.Keeps.{keep-keep, find-first}
 use Rattle.numbers.proofs.Greatest.{Under, Ascends, under-trans, under-keep}
 use Rattle.numbers.proofs.Ascending.{none-under}
-use Rattle.rows.specs.declared.Operation.{Operation}
-use Rattle.rows.specs.declared.Operation.the-variants.{Put, Remove}
+use Rattle.rows.specs.declared.Shape.{Shape}
+use Rattle.rows.specs.declared.Shape.the-variants.{Row, Key}
 use Rattle.table_update.specs.Tables.{rowAt, putRow, removeRow}
 use Rattle.edit_rules.specs.Edits.{rowsAfter}
-use Rattle.isolation.specs.Isolation.{handsRow}
+use Rattle.isolation.specs.Isolation.{isRow}
 
 module _ {A : Type 0} where
   pub find-keep : (p f : A → Bool) (xs : List A) → ((x : A) → f x ≡ true → p x ≡ true) → find f (keep p xs) ≡ find f xs
@@ -163,22 +163,22 @@ module _ {R : Type 0} (indexOf : R → List ℕ) where
 
     -- ---- an edit's rows: where the test goes by the index, an edit of a kept row commutes with it, and any other does not show
 
-    pub keep-after-in : (o : Operation) (r : R) (i : List ℕ) (xs : List R) → indexOf r ≡ i → ((x : R) → i ≡ indexOf x → p x ≡ true) → Ascends indexOf xs
-        → keep p (rowsAfter indexOf o r i xs) ≡ rowsAfter indexOf o r i (keep p xs)
-    keep-after-in Put r i xs e c a = keep-put-in r xs (λ x q. c x (sym e ∙ q)) (c r (sym e)) a
-    keep-after-in Remove r i xs e c a = keep-remove-in i xs c
+    pub keep-after-in : (y : Shape) (r : R) (i : List ℕ) (xs : List R) → indexOf r ≡ i → ((x : R) → i ≡ indexOf x → p x ≡ true) → Ascends indexOf xs
+        → keep p (rowsAfter indexOf y r i xs) ≡ rowsAfter indexOf y r i (keep p xs)
+    keep-after-in Row r i xs e c a = keep-put-in r xs (λ x q. c x (sym e ∙ q)) (c r (sym e)) a
+    keep-after-in Key r i xs e c a = keep-remove-in i xs c
 
-    pub keep-after-out : (o : Operation) (r : R) (i : List ℕ) (xs : List R) → indexOf r ≡ i → ((x : R) → i ≡ indexOf x → p x ≡ false)
-        → keep p (rowsAfter indexOf o r i xs) ≡ keep p xs
-    keep-after-out Put r i xs e c = keep-put-out r xs (λ x q. c x (sym e ∙ q)) (c r (sym e))
-    keep-after-out Remove r i xs e c = keep-remove-out i xs c
+    pub keep-after-out : (y : Shape) (r : R) (i : List ℕ) (xs : List R) → indexOf r ≡ i → ((x : R) → i ≡ indexOf x → p x ≡ false)
+        → keep p (rowsAfter indexOf y r i xs) ≡ keep p xs
+    keep-after-out Row r i xs e c = keep-put-out r xs (λ x q. c x (sym e ∙ q)) (c r (sym e))
+    keep-after-out Key r i xs e c = keep-remove-out i xs c
 
   -- its order, and what holds of every row
-  pub ascends-after : (o : Operation) (r : R) (i : List ℕ) (xs : List R) → Ascends indexOf xs → Ascends indexOf (rowsAfter indexOf o r i xs)
-  ascends-after Put r i xs a = ascends-put r xs a
-  ascends-after Remove r i xs a = ascends-remove i xs a
+  pub ascends-after : (y : Shape) (r : R) (i : List ℕ) (xs : List R) → Ascends indexOf xs → Ascends indexOf (rowsAfter indexOf y r i xs)
+  ascends-after Row r i xs a = ascends-put r xs a
+  ascends-after Key r i xs a = ascends-remove i xs a
 
-  pub every-after : (g : R → Bool) (o : Operation) (r : R) (i : List ℕ) (xs : List R) → (handsRow o ≡ true → g r ≡ true) → every g xs ≡ true
-      → every g (rowsAfter indexOf o r i xs) ≡ true
-  every-after g Put r i xs h a = every-put g r xs (h refl) a
-  every-after g Remove r i xs h a = every-remove g i xs a
+  pub every-after : (g : R → Bool) (y : Shape) (r : R) (i : List ℕ) (xs : List R) → (isRow y ≡ true → g r ≡ true) → every g xs ≡ true
+      → every g (rowsAfter indexOf y r i xs) ≡ true
+  every-after g Row r i xs h a = every-put g r xs (h refl) a
+  every-after g Key r i xs h a = every-remove g i xs a

@@ -11,8 +11,8 @@ use lib.Dec.{eqb}
 use Rattle.numbers.specs.BigEndian.{Octets}
 use Rattle.numbers.specs.Lists.{keep, every}
 use Rattle.numbers.specs.Order.{same}
-use Rattle.rows.specs.declared.Operation.{Operation}
-use Rattle.rows.specs.declared.Operation.the-variants.{Put, Remove}
+use Rattle.rows.specs.declared.Shape.{Shape}
+use Rattle.rows.specs.declared.Shape.the-variants.{Row, Key}
 use Rattle.rows.specs.declared.Table.{Table}
 use Rattle.rows.specs.declared.Table.the-variants.{Context, Mapping, Access, View}
 use Rattle.rows.specs.Fields.{values, legals, index}
@@ -21,7 +21,7 @@ use Rattle.rows.specs.Tables.{Tables, noRows}
 use Rattle.image.specs.Store.{held}
 use Rattle.instance_encode.specs.Instances.{lists, instance}
 use Rattle.table_update.specs.Tables.{rowAt}
-use Rattle.edit_rules.specs.Edits.{Edit, Caller}
+use Rattle.edit_rules.specs.Edits.{Edit, Caller, shapeOf}
 use Rattle.edit_rules.specs.TableRows.{RowOf, rowOf, valuesOf, contextIndex, mappingIndex, accessIndex, viewIndex}
 use Rattle.walk_rules.specs.Walk.{mayRead}
 use Rattle.edits.specs.Does.{Call, ask, owner, by, walk, Reply, replyNumber, Does}
@@ -113,12 +113,15 @@ insidersEdit w test (by c e) = implies (isMember w c && ofCircle w e) (test e)
 insidersEdit w test (walk c identifier) = true
 
 -- the row that an edit is handed passes a test. Document 01: "A removal is handed a key alone and breaks neither" condition.
-abbrev pub handsRow : Operation → Bool
-handsRow Put = true
-handsRow Remove = false
+abbrev pub isRow : Shape → Bool
+isRow Row = true
+isRow Key = false
+
+abbrev pub handsRow : Edit → Bool
+handsRow e = isRow (shapeOf (e .operation))
 
 abbrev pub handsSuch : ((t : Table) → RowOf t → Bool) → Edit → Bool
-handsSuch test e = implies (handsRow (e .operation)) (test (e .table) (rowOf (e .table) (e .bytes)))
+handsSuch test e = implies (handsRow e) (test (e .table) (rowOf (e .table) (e .bytes)))
 
 -- ".. map members to that group alone ..": of a mapping row
 abbrev pub mapsToGroup : Circle → (t : Table) → RowOf t → Bool
@@ -143,7 +146,7 @@ givesChosen w View r = true
 
 -- ".. and none of their puts there be answered 'table full' ..": 9, the number of no other case of an edit's answer
 abbrev pub findsRoom : Reply → Edit → Bool
-findsRoom r e = implies (handsRow (e .operation)) (not (eqb (replyNumber r) 9))
+findsRoom r e = implies (handsRow e) (not (eqb (replyNumber r) 9))
 
 -- "Let other principals have no edit accepted in the circle ..": 0, likewise
 abbrev pub othersRefused : Circle → Call → Reply → Bool

@@ -9,8 +9,8 @@ use lib.Dec.{eqb, ltb}
 use lib.ListN.{length, drop, length-drop}
 use borrow.Author.Tests.{ltb-true, ltb-false}
 use Rattle.numbers.proofs.Bools.{split as by}
-use Rattle.rows.specs.declared.Operation.{Operation}
-use Rattle.rows.specs.declared.Operation.the-variants.{Remove}
+use Rattle.edit_rules.specs.declared.Operation.{Operation}
+use Rattle.edit_rules.specs.declared.Operation.the-variants.{Remove}
 use Rattle.text_words.specs.Words.{longer, split, wordsFrom, hexOctets, dotted}
 use Rattle.text_words.proofs.Words.{never, split-some}
 use Rattle.text_words.proofs.WordsFrom.{none-from, some-from}

@@ -8,7 +8,7 @@ use native.Mathlib.Omega.{arith}
 use lib.ListN.{length}
 use Rattle.numbers.specs.Laid.{laid}
 use Rattle.numbers.proofs.Laid.{laid-nil}
-use Rattle.rows.specs.declared.Operation.{Operation}
+use Rattle.edit_rules.specs.declared.Operation.{Operation}
 use Rattle.text_words.specs.declared.Filled.{Filled}
 use Rattle.text_words.specs.declared.Filled.the-variants.{Upto, Malformed}
 use Rattle.text_words.specs.Words.{between, wordsFrom, Fills}

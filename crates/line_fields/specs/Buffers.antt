@@ -5,7 +5,7 @@ use mathlib.Core.Option.{Option, Option·elim, Option·getD}
 use Prim.Native.Nat.{ℕ, suc, _+_, _-_, _*_}
 use lib.ListN.{length}
 use Rattle.numbers.specs.Laid.{laid}
-use Rattle.rows.specs.declared.Operation.the-variants.{Remove}
+use Rattle.edit_rules.specs.declared.Operation.the-variants.{Remove}
 use Rattle.text_words.specs.Words.{hexOctets, dotted}
 use Rattle.text_rows.specs.EntryWords.{entryFront}
 use Rattle.line_fields.specs.declared.Kind.{Kind}

@@ -13,8 +13,8 @@ use Rattle.numbers.specs.Lists.{find}
 use Rattle.numbers.specs.Order.{same}
 use Rattle.rows.specs.declared.Table.{Table}
 use Rattle.rows.specs.declared.Table.the-variants.{Context}
-use Rattle.rows.specs.declared.Operation.{Operation}
-use Rattle.rows.specs.declared.Operation.the-variants.{Put, Remove}
+use Rattle.edit_rules.specs.declared.Operation.{Operation}
+use Rattle.edit_rules.specs.declared.Operation.the-variants.{Put, Remove}
 use Rattle.edit_rules.specs.Edits.{Edit, editOf}
 use Rattle.text_words.specs.Words.{decimal, hexOctets, dotted}
 use Rattle.text_rows.specs.EntryWords.{Entry, entrySaid}

@@ -5,7 +5,7 @@ use mathlib.Core.List.{List}
 use mathlib.Core.Option.{Option, none, some}
 use Prim.Native.Nat.{ℕ, suc, _+_, _*_, _≤_, _<_}
 use lib.ListN.{length, take, getD, replicate}
-use Rattle.rows.specs.declared.Operation.the-variants.{Put}
+use Rattle.edit_rules.specs.declared.Operation.the-variants.{Put}
 use Rattle.rows.specs.declared.Table.the-variants.{Context}
 use Rattle.text_words.specs.Words.{longest, between, wordsFrom}
 use Rattle.text_words.specs.declared.Filled.{Filled}

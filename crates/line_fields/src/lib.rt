@@ -1,6 +1,6 @@
 // The fields of a line, read by their kinds from its words. Numbers and identifiers go into a lent buffer of parts, everything else into one of
 // bytes; a slot for each field says where it lies.
-use rows::Operation;
+use edit_rules::Operation;
 use rows::Table;
 use text_rows::Found;
 use text_rows::Slot;

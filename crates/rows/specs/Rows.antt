@@ -2,6 +2,8 @@
 use mathlib.Core.List.{List, [], _∷_, _++_}
 use Prim.Native.Nat.{ℕ}
 use lib.ListN.{getD}
+use Rattle.rows.specs.declared.Shape.{Shape}
+use Rattle.rows.specs.declared.Shape.the-variants.{Row, Key}
 use Rattle.rows.specs.declared.Table.{Table}
 use Rattle.rows.specs.declared.Table.the-variants.{Context, Mapping, Access, View}
 use Rattle.rows.specs.Fields.{Field, sequence, integer, values, index}
@@ -109,6 +111,10 @@ rowFields Context = contextKey ++ contextRest
 rowFields Mapping = mappingKey ++ mappingRest
 rowFields Access = accessKey ++ accessRest
 rowFields View = viewKey ++ viewRest
+
+abbrev pub fieldsOf : Shape → Table → List Field
+fieldsOf Row t = rowFields t
+fieldsOf Key t = keyFields t
 
 -- the index of the row or the key that bytes hold: its key fields as sub-identifiers
 abbrev pub indexOf : Table → List ℕ → List ℕ

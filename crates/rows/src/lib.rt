@@ -18,10 +18,10 @@ pub enum Table {
     View,
 }
 
-// What an edit does with a row: it is handed the row to put, or the key of the row to remove.
-pub enum Operation {
-    Put,
-    Remove,
+// What bytes or words say of a row: all of it, or its key alone.
+pub enum Shape {
+    Row,
+    Key,
 }
 
 // The place that is reached, or what is wrong before it.

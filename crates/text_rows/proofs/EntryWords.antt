@@ -7,10 +7,10 @@ use native.Mathlib.Omega.{arith}
 use lib.ListN.{take}
 use Rattle.numbers.specs.Laid.{laid}
 use Rattle.numbers.proofs.Laid.{laid-nil}
-use Rattle.rows.specs.declared.Operation.{Operation}
+use Rattle.edit_rules.specs.declared.Operation.{Operation}
 use Rattle.rows.specs.declared.Table.{Table}
-use Rattle.rows.specs.Rows.{rowFields}
-use Rattle.edit_rules.specs.Edits.{fieldsOf}
+use Rattle.rows.specs.Rows.{rowFields, fieldsOf}
+use Rattle.edit_rules.specs.Edits.{shapeOf}
 use Rattle.text_words.specs.Words.{between, wordsFrom}
 use Rattle.text_words.proofs.Words.{never}
 use Rattle.text_words.proofs.WordsFrom.{WordAt}
@@ -20,17 +20,17 @@ use Rattle.text_rows.specs.TableWords.{tableNamed}
 use Rattle.text_rows.specs.EntryWords.{Counts, Entry, entryOf, entrySaid, entryFront, Entering}
 
 -- what is said whole is its front
-front-of : (o : Operation) (t : Table) (ws : List (List ℕ)) (said : Option Said) {e : Entry} → fieldsSaid (fieldsOf o t) ws ≡ said
-    → entryOf t said ≡ some e → fieldsFront (fieldsOf o t) ws ≡ e .bytes
+front-of : (o : Operation) (t : Table) (ws : List (List ℕ)) (said : Option Said) {e : Entry} → fieldsSaid (fieldsOf (shapeOf o) t) ws ≡ said
+    → entryOf t said ≡ some e → fieldsFront (fieldsOf (shapeOf o) t) ws ≡ e .bytes
 front-of o t ws none q e = never e
 front-of o t ws (some s) {e = x} q e =
-    let p : record { table = t; bytes = s .of; rest = s .rest } ≡ x = cc in fields-front (fieldsOf o t) ws q ∙ ap (λ u. u .bytes) p
+    let p : record { table = t; bytes = s .of; rest = s .rest } ≡ x = cc in fields-front (fieldsOf (shapeOf o) t) ws q ∙ ap (λ u. u .bytes) p
 
-front-named : (o : Operation) (t : Option Table) (ws : List (List ℕ)) {e : Entry} → bind t (λ t. entryOf t (fieldsSaid (fieldsOf o t) ws)) ≡ some e
-    → Option·elim t [] (λ t. fieldsFront (fieldsOf o t) ws) ≡ e .bytes
+front-named : (o : Operation) (t : Option Table) (ws : List (List ℕ)) {e : Entry} → bind t (λ t. entryOf t (fieldsSaid (fieldsOf (shapeOf o) t) ws)) ≡ some e
+    → Option·elim t [] (λ t. fieldsFront (fieldsOf (shapeOf o) t) ws) ≡ e .bytes
 unfolding bind Option·elim
 front-named o none ws e = never e
-front-named o (some t) ws e = front-of o t ws (fieldsSaid (fieldsOf o t) ws) refl e
+front-named o (some t) ws e = front-of o t ws (fieldsSaid (fieldsOf (shapeOf o) t) ws) refl e
 
 pub entry-front : (o : Operation) (ws : List (List ℕ)) {e : Entry} → entrySaid o ws ≡ some e → entryFront o ws ≡ e .bytes
 unfolding entrySaid entryFront
@@ -65,7 +65,7 @@ module _ (o : Operation) {at : ℕ} {line : List ℕ} {end : ℕ} (w : WordAt at
   pub fields-room : {out : List ℕ} {from : ℕ} → Roomy line at out from → Roomy line (end + 1) out from
   fields-room r = record { line-short = r .line-short; at-in = omega (arith, w .inside); room = omega (arith, r .room, w .forward) }
 
-  module _ {t : Table} (e : some t ≡ tableNamed (between at end line)) {n : ℕ} (k : Counts n o t) where
+  module _ {t : Table} (e : some t ≡ tableNamed (between at end line)) {n : ℕ} (k : Counts n (shapeOf o) t) where
     pub named-said : entrySaid o (wordsFrom at line) ≡ entryOf t (fieldsSaid (take n (rowFields t)) (wordsFrom (end + 1) line))
     unfolding entrySaid bind
     named-said = rw (w .is, ← e, k .fields-are)

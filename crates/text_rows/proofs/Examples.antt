@@ -9,7 +9,7 @@ use Rattle.text_words.specs.Words.{split, words, decimal, digitsFrom, hexDigit,
 use Rattle.rows.specs.declared.Table.the-variants.{Mapping, Access, View}
 use Rattle.rows.specs.Rows.{keyFields, rowFields}
 use Rattle.text_values.specs.Texts.{digits, decimalText, hexText, nameText, dotsText, dottedText}
-use Rattle.rows.specs.declared.Operation.the-variants.{Put, Remove}
+use Rattle.edit_rules.specs.declared.Operation.the-variants.{Put, Remove}
 use Rattle.text_fields.specs.RowWords.{fieldsSaid}
 use Rattle.text_rows.specs.TableWords.{tableNamed}
 use Rattle.text_rows.specs.EntryWords.{entrySaid}

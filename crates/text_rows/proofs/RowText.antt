@@ -7,14 +7,13 @@ use mathlib.Core.Option.{none}
 use Prim.Native.Nat.{ℕ, _+_, _≤_}
 use native.Mathlib.Omega.{arith}
 use lib.ListN.{length, take, drop, length-append}
-use Rattle.rows.specs.declared.Operation.{Operation}
+use Rattle.rows.specs.declared.Shape.{Shape}
 use Rattle.rows.specs.declared.Table.{Table}
 use Rattle.rows.specs.declared.Form.{Form}
 use Rattle.rows.specs.Fields.{Field, fault, value, faults, values}
 use Rattle.rows.specs.Forms.{fieldOf}
-use Rattle.rows.specs.Rows.{keyFields, rowFields}
+use Rattle.rows.specs.Rows.{keyFields, rowFields, fieldsOf}
 use Rattle.rows.proofs.Places.{Next, next}
-use Rattle.edit_rules.specs.Edits.{fieldsOf}
 use Rattle.text_values.specs.Texts.{Puts}
 use Rattle.text_values.proofs.Puts.{Onward, start, room, step, done, both, behind}
 use Rattle.text_rows.specs.TableWords.{tableWord}
@@ -82,18 +81,18 @@ module _ {text : List ℕ} {at : ℕ} {w₀ : List ℕ} {row : List ℕ} {k o : 
 pub key-fields : (t : Table) {n : ℕ} → n ≡ length (keyFields t) → take n (rowFields t) ≡ keyFields t
 key-fields t e = ap (λ m. take m (rowFields t)) e ∙ key-first t
 
-module _ (o : Operation) (t : Table) (xs : List (List ℕ)) (at : ℕ) (w : List ℕ) (h : at + length (entryText o t xs) ≤ length w) where
-  whole : at + length (tableWord t ++ fieldsText (fieldsOf o t) xs) ≤ length w
+module _ (s : Shape) (t : Table) (xs : List (List ℕ)) (at : ℕ) (w : List ℕ) (h : at + length (entryText s t xs) ≤ length w) where
+  whole : at + length (tableWord t ++ fieldsText (fieldsOf s t) xs) ≤ length w
   unfolding entryText
   whole = h
 
   pub word-room : at + length (tableWord t) ≤ length w
-  word-room = omega (arith, whole, length-append (tableWord t) (fieldsText (fieldsOf o t) xs))
+  word-room = omega (arith, whole, length-append (tableWord t) (fieldsText (fieldsOf s t) xs))
 
   module _ {r : ℕ} {after : List ℕ} (p : Puts (tableWord t) at w after r) where
-    pub fields-room : r + length (fieldsText (fieldsOf o t) xs) ≤ length after
-    fields-room = behind (tableWord t) (fieldsText (fieldsOf o t) xs) whole p
+    pub fields-room : r + length (fieldsText (fieldsOf s t) xs) ≤ length after
+    fields-room = behind (tableWord t) (fieldsText (fieldsOf s t) xs) whole p
 
-    pub entry-put : {e : ℕ} {end : List ℕ} → Puts (fieldsText (fieldsOf o t) xs) r after end e → Puts (entryText o t xs) at w end e
+    pub entry-put : {e : ℕ} {end : List ℕ} → Puts (fieldsText (fieldsOf s t) xs) r after end e → Puts (entryText s t xs) at w end e
     unfolding entryText
-    entry-put q = both (tableWord t) (fieldsText (fieldsOf o t) xs) whole p q
+    entry-put q = both (tableWord t) (fieldsText (fieldsOf s t) xs) whole p q

@@ -10,14 +10,13 @@ use lib.ListN.{length, getD, length-append}
 use borrow.Author.Tests.{ltb-true}
 use Rattle.numbers.specs.BigEndian.{Width, octet, quad, bound, fit}
 use Rattle.numbers.proofs.Bools.{clash, and-left, and-right}
-use Rattle.rows.specs.declared.Operation.{Operation}
-use Rattle.rows.specs.declared.Operation.the-variants.{Put, Remove}
+use Rattle.rows.specs.declared.Shape.{Shape}
+use Rattle.rows.specs.declared.Shape.the-variants.{Row, Key}
 use Rattle.rows.specs.declared.Table.{Table}
 use Rattle.rows.specs.declared.Table.the-variants.{Context, Mapping, Access, View}
 use Rattle.rows.specs.Fields.{Field, sequence, integer, within, legal, legals}
-use Rattle.rows.specs.Rows.{keyFields, rowFields}
+use Rattle.rows.specs.Rows.{keyFields, rowFields, fieldsOf}
 use Rattle.rows.proofs.Sound.{within-most}
-use Rattle.edit_rules.specs.Edits.{fieldsOf}
 use Rattle.text_rows.specs.TableWords.{tableWord}
 use Rattle.text_rows.specs.FieldText.{fieldText}
 use Rattle.text_rows.specs.RowText.{fieldsText, entryText}
@@ -65,19 +64,19 @@ fields-short (k ∷ ks) (x ∷ xs) h =
     let r : length (fieldsText ks xs) ≤ mosts ks = fields-short ks xs (and-right (legal k x) _ h) in
     omega (arith, length-append (fieldText k x) (fieldsText ks xs))
 
-table-short : (o : Operation) (t : Table) → length (tableWord t) + mosts (fieldsOf o t) ≤ 900
+table-short : (s : Shape) (t : Table) → length (tableWord t) + mosts (fieldsOf s t) ≤ 900
 unfolding keyFields rowFields mosts most
-table-short Put Context = omega arith
-table-short Put Mapping = omega arith
-table-short Put Access = omega arith
-table-short Put View = omega arith
-table-short Remove Context = omega arith
-table-short Remove Mapping = omega arith
-table-short Remove Access = omega arith
-table-short Remove View = omega arith
+table-short Row Context = omega arith
+table-short Row Mapping = omega arith
+table-short Row Access = omega arith
+table-short Row View = omega arith
+table-short Key Context = omega arith
+table-short Key Mapping = omega arith
+table-short Key Access = omega arith
+table-short Key View = omega arith
 
-pub length-entry : (o : Operation) (t : Table) (xs : List (List ℕ)) → legals (fieldsOf o t) xs ≡ true → length (entryText o t xs) ≤ 900
+pub length-entry : (s : Shape) (t : Table) (xs : List (List ℕ)) → legals (fieldsOf s t) xs ≡ true → length (entryText s t xs) ≤ 900
 unfolding entryText
-length-entry o t xs h =
-    let ks = fieldsOf o t in
-    omega (arith, length-append (tableWord t) (fieldsText ks xs), fields-short ks xs h, table-short o t)
+length-entry s t xs h =
+    let ks = fieldsOf s t in
+    omega (arith, length-append (tableWord t) (fieldsText ks xs), fields-short ks xs h, table-short s t)

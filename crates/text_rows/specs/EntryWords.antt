@@ -4,10 +4,11 @@ use mathlib.Core.List.{List, [], _∷_}
 use mathlib.Core.Option.{Option, none, some, bind, Option·elim}
 use Prim.Native.Nat.{ℕ, suc, _+_, _*_, _≤_}
 use lib.ListN.{length, take}
-use Rattle.rows.specs.declared.Operation.{Operation}
+use Rattle.edit_rules.specs.declared.Operation.{Operation}
+use Rattle.rows.specs.declared.Shape.{Shape}
 use Rattle.rows.specs.declared.Table.{Table}
-use Rattle.rows.specs.Rows.{rowFields}
-use Rattle.edit_rules.specs.Edits.{fieldsOf}
+use Rattle.rows.specs.Rows.{rowFields, fieldsOf}
+use Rattle.edit_rules.specs.Edits.{shapeOf}
 use Rattle.text_words.specs.Words.{wordsFrom}
 use Rattle.text_fields.specs.RowWords.{Said, fieldsSaid, fieldsFront}
 use Rattle.text_rows.specs.TableWords.{tableNamed}
@@ -24,21 +25,21 @@ abbrev pub entryOf : Table → Option Said → Option Entry
 entryOf t none = none
 entryOf t (some s) = some (record { table = t; bytes = s .of; rest = s .rest })
 
--- a row where one is put, a key where one is removed
+-- a row or a key, as the operation has it
 unfoldable pub entrySaid : Operation → List (List ℕ) → Option Entry
 entrySaid o [] = none
-entrySaid o (w ∷ ws) = bind (tableNamed w) (λ t. entryOf t (fieldsSaid (fieldsOf o t) ws))
+entrySaid o (w ∷ ws) = bind (tableNamed w) (λ t. entryOf t (fieldsSaid (fieldsOf (shapeOf o) t) ws))
 
 -- the bytes of its fields in front of the first word that is missing or malformed; none, where no table is named
 unfoldable pub entryFront : Operation → List (List ℕ) → List ℕ
 entryFront o [] = []
-entryFront o (w ∷ ws) = Option·elim (tableNamed w) [] (λ t. fieldsFront (fieldsOf o t) ws)
+entryFront o (w ∷ ws) = Option·elim (tableNamed w) [] (λ t. fieldsFront (fieldsOf (shapeOf o) t) ws)
 
 -- ---- how the code reads it
 
--- so many fields of the table are those of an operation
-pub record Counts (n : ℕ) (o : Operation) (t : Table) : Type 0 where
-  pub fields-are : take n (rowFields t) ≡ fieldsOf o t
+-- so many fields of the table are those of a row or a key
+pub record Counts (n : ℕ) (s : Shape) (t : Table) : Type 0 where
+  pub fields-are : take n (rowFields t) ≡ fieldsOf s t
   pub inside : n ≤ length (rowFields t)
 
 -- the slot says where the bytes lie that are said, from `from` on; the next word begins at `next`

@@ -1,6 +1,7 @@
 // A row or a key of a table: read from the words of a line into its bytes in the form of the image, and told from its bytes in words.
+use edit_rules::Operation;
 use rows::Form;
-use rows::Operation;
+use rows::Shape;
 use rows::Table;
 use text_fields::Placed;
 use text_words::Word;
@@ -11,8 +12,7 @@ ghost use lib.ListN.{length, take, drop};
 ghost use Rattle.numbers.specs.Laid.{laid};
 ghost use Rattle.rows.specs.Fields.{fault, faults, value, values};
 ghost use Rattle.rows.specs.Forms.{fieldOf};
-ghost use Rattle.rows.specs.Rows.{rowFields};
-ghost use Rattle.edit_rules.specs.Edits.{fieldsOf};
+ghost use Rattle.rows.specs.Rows.{rowFields, fieldsOf};
 ghost use Rattle.text_words.specs.Words.{wordsFrom};
 ghost use Rattle.text_values.specs.Texts.{Puts};
 ghost use Rattle.text_fields.specs.RowWords.{Roomy};
@@ -37,13 +37,13 @@ pub enum Found {
     Malformed,
 }
 
-// How many fields of a table an operation is handed: those of a row to put, or those of a key.
-fn field_count(o: Operation, t: Table) -> usize
-    ensures { λ r. ⌜ Counts r o t ⌝ }
+// How many fields a row or a key of a table has.
+fn field_count(s: Shape, t: Table) -> usize
+    ensures { λ r. ⌜ Counts r s t ⌝ }
 {
-    match o {
-        Operation::Put => rows::row_len(t),
-        Operation::Remove => rows::key_len(t),
+    match s {
+        Shape::Row => rows::row_len(t),
+        Shape::Key => rows::key_len(t),
     }
 }
 
@@ -65,7 +65,7 @@ pub fn entry(o: Operation, line: &[u8], at: usize, out: &mut [u8], from: usize) 
             return Found::Malformed;
         }
     };
-    let n = field_count(o, table);
+    let n = field_count(edit_rules::shape_of(o), table);
     let Placed::To(end, next) = text_fields::fields(table, n, line, end + 1, out, from) else {
         return Found::Malformed;
     };
@@ -142,12 +142,12 @@ fn put_fields(out: &mut [u8], at: usize, t: Table, n: usize, row: &[u8]) -> usiz
     o
 }
 
-// The row or the key, as the operation has it, whose bytes are whole.
-pub fn put_entry(out: &mut [u8], at: usize, o: Operation, t: Table, bytes: &[u8]) -> usize
-    requires legal { ⌜ faults (fieldsOf o t) (now bytes) ≡ none ⌝ }
-    requires room { ⌜ at + length (entryText o t (values (fieldsOf o t) (now bytes))) ≤ length (now out) ⌝ }
-    ensures { λ r. ⌜ Puts (entryText o t (values (fieldsOf o t) (now (bytes .entry)))) at (now (out .entry)) (now (out .exit)) r ⌝ }
+// The row or the key whose bytes are whole.
+pub fn put_entry(out: &mut [u8], at: usize, s: Shape, t: Table, bytes: &[u8]) -> usize
+    requires legal { ⌜ faults (fieldsOf s t) (now bytes) ≡ none ⌝ }
+    requires room { ⌜ at + length (entryText s t (values (fieldsOf s t) (now bytes))) ≤ length (now out) ⌝ }
+    ensures { λ r. ⌜ Puts (entryText s t (values (fieldsOf s t) (now (bytes .entry)))) at (now (out .entry)) (now (out .exit)) r ⌝ }
 {
     let next = put_table(out, at, t);
-    put_fields(out, next, t, field_count(o, t), bytes)
+    put_fields(out, next, t, field_count(s, t), bytes)
 }

@@ -21,7 +21,7 @@ judge-edit-requires c κs = start (c .before) .pre
 -- the row is of no context, and what was judged
 judged : (j : tie.After-judge-edit) → let a = start (j .before .before) .args in
     admission false (j .judge-edit .result) ≡ admission (isContext (a .t))
-    (judgementAt (tablesAt (a .w .now) (a .l)) (callerOf (a .security-model) (a .security-name .now) (a .security-level)) (a .c) (a .t)
+    (judgementAt (tablesAt (a .w .now) (a .l)) (callerOf (a .security-model) (a .security-name .now) (a .security-level)) (a .s) (a .t)
     (indexOf (a .t) (a .key .now)))
 judged j = let e = j .before in ap₂ admission (sym (e .if1 .left) ∙ e .before .is-context .ensures) (j .judge-edit .ensures)
 

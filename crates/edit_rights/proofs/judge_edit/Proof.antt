@@ -23,7 +23,7 @@ returns : tie.Need-returns
 returns c =
     let z = c .before .before .before in
     let a = start z .args in
-    judged-denied (caller (start z)) (z .authorize .ensures) (a .c) (a .t) (indexOf (a .t) (a .key .now)) (c .before .standing .given .1)
+    judged-denied (caller (start z)) (z .authorize .ensures) (a .s) (a .t) (indexOf (a .t) (a .key .now)) (c .before .standing .given .1)
 
 returns-2 : tie.Need-returns-2
 returns-2 c =
@@ -31,7 +31,7 @@ returns-2 c =
     let z = k .before .before .before in
     let a = start z .args in
     c .judge-in .ensures
-    ∙ judged-viewed (caller (start z)) (z .authorize .ensures) (a .c) (a .t) (indexOf (a .t) (a .key .now)) (k .before .standing2 .given .1)
+    ∙ judged-viewed (caller (start z)) (z .authorize .ensures) (a .s) (a .t) (indexOf (a .t) (a .key .now)) (k .before .standing2 .given .1)
 
 pub judge-edit-spec : {M : Type 1} → statement M
 judge-edit-spec =

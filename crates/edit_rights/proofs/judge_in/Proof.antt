@@ -25,7 +25,7 @@ listed : (n : tie.After-encode) → lists (start n .args .t) (n .before .before 
 listed n =
     let a = start n .args in
     let r = n .before .before .before .columns-written in
-    first-listed (a .c) (a .t) (r .result .first) (r .result .count) (r .ensures .0)
+    first-listed (a .s) (a .t) (r .result .first) (r .result .count) (r .ensures .0)
 
 returns : tie.Need-returns
 returns c =

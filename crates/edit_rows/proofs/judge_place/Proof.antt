@@ -1,6 +1,6 @@
 -- `edit_rows::judge_place` meets its contract: a removal of a row that is not held is refused as it is; past that, the storage, or that the owner
 -- edits, decides. Assumes nothing.
-use mathlib.Core.Path.{_≡_, refl, sym, _∙_}
+use mathlib.Core.Path.{_≡_, refl, sym, ap, _∙_}
 use mathlib.Core.Bool.{cond, not, _&&_}
 use mathlib.Core.Option.{Option, none, some}
 use borrow.Author.Needs.{needs}
@@ -10,7 +10,7 @@ use Rattle.answers.specs.declared.Fault.the-variants.{StorageForbids}
 use Rattle.rows.specs.Fields.{orElse}
 use Rattle.edit_rules.specs.declared.Edited.{Edited}
 use Rattle.edit_rules.specs.declared.Edited.the-variants.{Done}
-use Rattle.edit_rules.specs.Edits.{faulted, absentFault}
+use Rattle.edit_rules.specs.Edits.{shapeOf, faulted, absentFault}
 use Rattle.edit_rules.specs.Storage.{storageIn, storageAt, mayChange}
 use Rattle.edit_rows.proofs.Stores.{faulty-done, not-done}
 use Rattle.edit_rows.proofs.judge_place.Statement.{statement}
@@ -29,7 +29,7 @@ second-fault (some f) g e = absurd (faulty-done e)
 abbrev second : tie.Start → Option Fault
 second s =
     let a = s .args in
-    cond (a .strict && not (mayChange (a .c) (storageAt (a .w .now) (a .p)) (storageIn (a .bytes .now)))) (some StorageForbids) none
+    cond (a .strict && not (mayChange (shapeOf (a .c)) (storageAt (a .w .now) (a .p)) (storageIn (a .bytes .now)))) (some StorageForbids) none
 
 -- a row is there where one must be
 there : (t : tie.After-enum-told) → let a = t .before .before .before .before .before .args in faulted (absentFault (a .c) (a .p .present)) ≡ Done
@@ -45,19 +45,28 @@ returns c =
     first-fault (absentFault (s .args .c) (s .args .p .present)) (second s) (c .before .judge-presence .ensures) (not-done _ (c .match .keys2))
 
 may-change-requires : tie.Need-may-change-requires
-may-change-requires c κs = c .before .before .before .before .before .before .pre (c .if1 .taken)
+may-change-requires c κs =
+    let i = c .before in
+    rw (c .shape-of .ensures) (i .before .before .before .before .before .before .pre (i .if1 .taken))
+
+-- as the storage lets it
+let-by : (m : tie.After-may-change) → let a = m .before .before .before .before .before .before .before .before .args in
+    m .may-change .result ≡ mayChange (shapeOf (a .c)) (storageAt (a .w .now) (a .p)) (storageIn (a .bytes .now))
+let-by m =
+    let a = m .before .before .before .before .before .before .before .before .args in
+    m .may-change .ensures ∙ ap (λ s. mayChange s (storageAt (a .w .now) (a .p)) (storageIn (a .bytes .now))) (m .before .shape-of .ensures)
 
 returns-2 : tie.Need-returns-2
 returns-2 c =
     let m = c .before in
-    let t = m .before .before in
-    rw (passed t, m .before .if1 .taken, sym (m .may-change .ensures) ∙ not-true _ (c .if2 .taken))
+    let i = m .before .before in
+    rw (passed (i .before), i .if1 .taken, sym (let-by m) ∙ not-true _ (c .if2 .taken))
 
 returns-3 : tie.Need-returns-3
 returns-3 c =
     let m = c .before in
-    let t = m .before .before in
-    rw (passed t, m .before .if1 .taken, sym (m .may-change .ensures) ∙ not-false _ (c .if2 .left))
+    let i = m .before .before in
+    rw (passed (i .before), i .if1 .taken, sym (let-by m) ∙ not-false _ (c .if2 .left))
 
 returns-4 : tie.Need-returns-4
 returns-4 c = rw (passed (c .before), c .if1 .left)
@@ -65,4 +74,4 @@ returns-4 c = rw (passed (c .before), c .if1 .left)
 pub judge-place-spec : {M : Type 1} → statement M
 judge-place-spec =
     tie.close
-    (tie.spec (λ c κs. search needs) (λ c. search needs) returns may-change-requires returns-2 returns-3 returns-4)
+    (tie.spec (λ c κs. search needs) (λ c. search needs) returns (λ c κs. search needs) may-change-requires returns-2 returns-3 returns-4)

@@ -1,19 +1,19 @@
 -- `edits::principal_edit` meets its contract. What is not ready is refused; a caller out of its ranges is 7; what is not admitted is 12 or 1 to 5,
 -- the edit being judged by the index of the key at the front of its bytes; otherwise what `change` leaves is what the principal's edit says
 -- (`Calls`). Assumes nothing.
-use mathlib.Core.Path.{_≡_, sym, ap, _∙_}
+use mathlib.Core.Path.{_≡_, sym, ap, ap₂, _∙_}
 use mathlib.Core.Bool.{true}
 use mathlib.Core.Option.{none}
 use native.Mathlib.Omega.{arith}
 use borrow.Author.Needs.{needs}
 use borrow.Author.Tests.{not-true, not-false}
 use Rattle.rows.specs.Fields.{faults, span}
-use Rattle.rows.specs.Rows.{keyFields, indexOf}
+use Rattle.rows.specs.Rows.{keyFields, fieldsOf, indexOf}
 use Rattle.numbers.specs.BigEndian.{Octets}
 use Rattle.image_layout.specs.Layout.{layoutOf}
 use Rattle.image_judge.specs.Faults.{tablesAt}
 use Rattle.image.specs.Store.{isSound}
-use Rattle.edit_rules.specs.Edits.{Caller, callerOf, Edit, editOf, fieldsOf, indexOfEdit, legalCaller, legalEdit, judgementAt, judgement, isContext}
+use Rattle.edit_rules.specs.Edits.{Caller, callerOf, Edit, editOf, shapeOf, indexOfEdit, legalCaller, legalEdit, judgementAt, judgement, isContext}
 use Rattle.edit_rows.proofs.Stores.{sound-laid, key-within}
 use Rattle.edit_rights.specs.declared.Admission.the-variants.{Granted}
 use Rattle.edit_rights.specs.Admission.{admission}
@@ -39,7 +39,7 @@ facts k =
     let a = start k .args in
     ready (a .c) (a .t) (a .store .now) (a .bytes .now) (sym (k .before .prepared2 .given .1) ∙ k .before .before .before .prepare .ensures)
 
-whole : (k : tie.After-known-told2) → let a = start k .args in faults (fieldsOf (a .c) (a .t)) (a .bytes .now) ≡ none
+whole : (k : tie.After-known-told2) → let a = start k .args in faults (fieldsOf (shapeOf (a .c)) (a .t)) (a .bytes .now) ≡ none
 whole k = let a = start k .args in ready-whole (a .c) (a .t) (a .store .now) (a .bytes .now) (facts k .1)
 
 handed-bytes : (k : tie.After-known-told2) → Octets (start k .args .bytes .now)
@@ -54,7 +54,7 @@ legal e = sym (e .before .is-caller .ensures) ∙ not-false _ (e .if1 .left)
 
 -- what was admitted or denied is the edit
 abbrev legal-at : tie.After-admit → tie.Else1
-legal-at j = j .before .before .before
+legal-at j = j .before .before .before .before
 
 admitted : (j : tie.After-admit) → let k = ready-at (legal-at j) in let s = start k in
     j .admit .result ≡ admission (isContext (wanted s .table)) (judgement (tablesAt (s .args .store .now) (k .before .prepared2 .given .0 .0))
@@ -67,8 +67,9 @@ admitted j =
     let T = tablesAt (a .store .now) (k .before .prepared2 .given .0 .0) in
     j .admit .ensures
     ∙ ap (admission (isContext (a .t)))
-    (ap (judgementAt T (caller s) (a .c) (a .t)) (ap (indexOf (a .t)) (key-part (a .t) (a .bytes .now) (sym (facts k .3)))
-    ∙ key-index (a .c) (a .t) (a .bytes .now) (handed-bytes k) (whole k)))
+    (ap₂ (λ y index. judgementAt T (caller s) y (a .t) index) (j .before .shape-of .ensures)
+    (ap (indexOf (a .t)) (key-part (a .t) (a .bytes .now) (sym (facts k .3)))
+    ∙ key-index (shapeOf (a .c)) (a .t) (a .bytes .now) (handed-bytes k) (whole k)))
 
 returns : tie.Need-returns
 returns c =
@@ -80,15 +81,15 @@ part-key-end : tie.Need-part-key-end
 part-key-end c =
     let k = ready-at c in
     let a = start k .args in
-    omega (arith, key-within (a .c) (a .t) (a .bytes .now) (whole k), facts k .3)
+    omega (arith, key-within (shapeOf (a .c)) (a .t) (a .bytes .now) (whole k), facts k .3)
 
 admit-requires : tie.Need-admit-requires
 admit-requires c κs =
-    let k = ready-at (c .before .before) in
+    let k = ready-at (c .before .before .before) in
     let a = start k .args in (
       sound-laid (facts k .0) (facts k .2),
       rw (key-part (a .t) (a .bytes .now) (sym (facts k .3)))
-          (key-legal (a .c) (a .t) (a .bytes .now) (handed-bytes k) (whole k)),
+          (key-legal (shapeOf (a .c)) (a .t) (a .bytes .now) (handed-bytes k) (whole k)),
     )
 
 returns-2 : tie.Need-returns-2
@@ -132,5 +133,5 @@ pub principal-edit-spec : {M : Type 1} → statement M
 principal-edit-spec =
     tie.close
     (tie.spec (λ c κs. search needs) (λ c. search needs) (λ c. search needs) (λ c κs. search needs) (λ c. search needs) returns
-    (λ c. search needs) (λ c. search needs) part-key-end admit-requires (λ c. search needs) (λ c. search needs) returns-2
+    (λ c. search needs) (λ c. search needs) part-key-end (λ c κs. search needs) admit-requires (λ c. search needs) (λ c. search needs) returns-2
     (λ c. search needs) change-requires (λ c. search needs) returns-3 (λ c. search needs) returns-4)

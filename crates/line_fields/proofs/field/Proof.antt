@@ -6,7 +6,7 @@ use Prim.Native.Nat.{ℕ, _*_}
 use native.Mathlib.Omega.{arith}
 use lib.ListN.{length}
 use borrow.Author.Needs.{needs}
-use Rattle.rows.specs.declared.Operation.the-variants.{Remove}
+use Rattle.edit_rules.specs.declared.Operation.the-variants.{Remove}
 use Rattle.text_words.specs.Words.{between, hexOctets, dotted}
 use Rattle.text_words.proofs.WordsFrom.{WordAt, word-missing, word-found}
 use Rattle.line_fields.specs.Kinds.{number, kindSaid}

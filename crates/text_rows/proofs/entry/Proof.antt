@@ -8,6 +8,8 @@ use borrow.Author.Needs.{needs}
 use Rattle.text_words.specs.Words.{between, split, place}
 use Rattle.text_words.proofs.Named.{wordsOf, named-at, named-none}
 use Rattle.text_words.proofs.WordsFrom.{WordAt, word-missing, word-found}
+use Rattle.edit_rules.specs.Edits.{shapeOf}
+use Rattle.text_rows.specs.EntryWords.{Counts}
 use Rattle.text_rows.specs.TableWords.{tableWord, tables, tableNamed}
 use Rattle.text_rows.proofs.EntryWords.{missing-none, missing-front, unlaid, other-none, other-front, fields-room}
 use Rattle.text_rows.proofs.EntryWords.{entry-bad, entry-said, entry-lays}
@@ -38,6 +40,16 @@ named c =
     (λ w. rw (w .1) (named-at tableWord _ tables 3 (sym (w .0 .keys4) ∙ p)))))
     (c .match2 .came)
 
+-- as many fields as the operation is handed
+abbrev matched : tie.After-field-count → tie.At-match2-came
+matched f = f .before .before
+
+abbrev word-at : tie.After-field-count → tie.After-known-told
+word-at f = matched f .before .before .before .before
+
+counts : (f : tie.After-field-count) → Counts (f .field-count .result) (shapeOf (start (word-at f) .args .o)) (matched f .match2 .table)
+counts f = rw (← (f .before .shape-of .ensures)) (f .field-count .ensures)
+
 returns : tie.Need-returns
 returns c = let e = word-missing _ _ (sym (c .before .before .word-at .ensures) ∙ c .enum-told .given .1) in
     let s = c .before .before .before .before .before .args in
@@ -60,36 +72,36 @@ returns-2 c = let k = c .before .before .before .before in
     (other-none (s .o) (found k) e, unlaid (s .from) (s .out .now) (other-front (s .o) (found k) e))
 
 add-fields : tie.Need-add-fields
-add-fields c = omega (arith, found (c .before .before .before .before .before) .inside)
+add-fields c = omega (arith, found (word-at c) .inside)
 
 fields-requires : tie.Need-fields-requires
 fields-requires c κs = let f = c .before in
-    let k = f .before .before .before .before .before in
-    (f .field-count .ensures .inside, fields-room (start k .args .o) (found k) (start k .pre))
+    let k = word-at f in
+    (counts f .inside, fields-room (start k .args .o) (found k) (start k .pre))
 
 returns-3 : tie.Need-returns-3
 returns-3 c = let r = c .before .before .before .before in
     let f = r .before .before in
-    let k = f .before .before .before .before .before in
+    let k = word-at f in
     let s = start k .args in
-    let m = f .field-count .ensures in (
-      entry-bad (s .o) (found k) (named (f .before)) m (rw (c .enum-told2 .given .1) at (r .fields .ensures .0)),
-      entry-lays (s .o) (found k) (named (f .before)) m (s .from) (s .out .now) (r .fields .ensures .1),
+    let m = counts f in (
+      entry-bad (s .o) (found k) (named (matched f)) m (rw (c .enum-told2 .given .1) at (r .fields .ensures .0)),
+      entry-lays (s .o) (found k) (named (matched f)) m (s .from) (s .out .now) (r .fields .ensures .1),
     )
 
 returns-4 : tie.Need-returns-4
 returns-4 c = let r = c .before .before .before .before .before in
     let f = r .before .before in
-    let k = f .before .before .before .before .before in
+    let k = word-at f in
     let s = start k .args in
-    let m = f .field-count .ensures in (
-      entry-said (s .o) (found k) (named (f .before)) m (rw (c .before .end2 .given .1) at (r .fields .ensures .0)),
-      entry-lays (s .o) (found k) (named (f .before)) m (s .from) (s .out .now) (r .fields .ensures .1),
+    let m = counts f in (
+      entry-said (s .o) (found k) (named (matched f)) m (rw (c .before .end2 .given .1) at (r .fields .ensures .0)),
+      entry-lays (s .o) (found k) (named (matched f)) m (s .from) (s .out .now) (r .fields .ensures .1),
     )
 
 pub entry-spec : {M : Type 1} → statement M
 entry-spec =
     tie.close
     (tie.spec (λ c κs. search needs) (λ c. search needs) (λ c. search needs) returns sub-place-of part-place-of-start part-place-of-end
-    (λ c. search needs) (λ c κs. search needs) returns-2 (λ c κs. search needs) add-fields fields-requires (λ c. search needs) (λ c. search needs)
-    (λ c. search needs) returns-3 (λ c. search needs) returns-4)
+    (λ c. search needs) (λ c κs. search needs) returns-2 (λ c κs. search needs) (λ c κs. search needs) add-fields fields-requires
+    (λ c. search needs) (λ c. search needs) (λ c. search needs) returns-3 (λ c. search needs) returns-4)

@@ -5,6 +5,7 @@ use mathlib.Core.Path.{_≡_, sym, ap, _∙_}
 use mathlib.Core.Bool.{Bool}
 use mathlib.Core.Option.{Option}
 use native.Mathlib.Omega.{arith}
+use lib.ListN.{length}
 use borrow.Author.Needs.{needs}
 use Rattle.answers.specs.declared.Fault.{Fault}
 use Rattle.rows.specs.Rows.{limit}
@@ -13,7 +14,9 @@ use Rattle.image_layout.specs.Layout.{layoutOf, extentOf}
 use Rattle.table_update.specs.Exchange.{Sought}
 use Rattle.table_update.proofs.Stores.{rowKey}
 use Rattle.edit_rules.specs.declared.Edited.the-variants.{Done}
+use Rattle.edit_rules.specs.Edits.{shapeOf}
 use Rattle.edit_rules.specs.Storage.{storageIn, storageAt, placeFault, placed, fullAt}
+use Rattle.edit_rows.specs.Promise.{lengthIn}
 use Rattle.edit_rows.proofs.Stores.{inside-laid, rising-laid, views-laid, sought-laid, key-within}
 use Rattle.edit_rows.proofs.Stores.{faulty-done, not-done, placed-judged, placed-full, placed-room}
 use Rattle.edit_rows.proofs.Stores.{taken-within, storage-known, change-refused, change-asked, change-done}
@@ -76,7 +79,7 @@ done-is e =
 
 part-seek-end : tie.Need-part-seek-end
 part-seek-end c =
-    let s = start (c .before) in omega (arith, key-within (s .args .c) (s .args .t) (s .args .bytes .now) (s .pre .1 .whole), s .pre .1 .key-is)
+    let s = start (c .before) in omega (arith, key-within (shapeOf (s .args .c)) (s .args .t) (s .args .bytes .now) (s .pre .1 .whole), s .pre .1 .key-is)
 
 seek-requires : tie.Need-seek-requires
 seek-requires c κs =
@@ -84,7 +87,7 @@ seek-requires c κs =
     let s = start x in
     let a = s .args in (
       inside-laid (s .pre .0 .sound) (s .pre .0 .laid) (a .t) (x .extent-of .ensures),
-      rising-laid (a .c) (a .t) (a .w .now) (a .bytes .now) (s .pre .0 .sound) (store-bytes x) (handed-bytes x) (s .pre .1 .whole) (s .pre .0 .laid)
+      rising-laid (shapeOf (a .c)) (a .t) (a .w .now) (a .bytes .now) (s .pre .0 .sound) (store-bytes x) (handed-bytes x) (s .pre .1 .whole) (s .pre .0 .laid)
           (x .extent-of .ensures) (s .pre .1 .key-is),
     )
 
@@ -119,14 +122,21 @@ end-of-requires : tie.Need-end-of-requires
 end-of-requires c κs =
     let s = start (laid (found (judged (c .before .before .before)))) in views-laid (s .pre .0 .sound) (s .pre .0 .laid)
 
+abbrev else-of : tie.After-length-in → tie.Else1
+else-of n = n .before .before .before .before .before
+
+-- as many bytes as come into the table
+length-is : (n : tie.After-length-in) → let a = start (laid (found (judged (else-of n .before)))) .args in
+    n .length-in .result ≡ lengthIn (shapeOf (a .c)) (length (a .bytes .now))
+length-is n =
+    let a = start (laid (found (judged (else-of n .before)))) .args in
+    n .length-in .ensures ∙ ap (λ y. lengthIn y (length (a .bytes .now))) (n .before .shape-of .ensures)
+
 part-exchange-end : tie.Need-part-exchange-end
 part-exchange-end c =
     let n = c .before in
-    let s = start (laid (found (judged (n .before .before .before .before .before)))) in
-    taken-within (s .args .c) (s .args .bytes .now) (n .length-in .ensures)
-
-abbrev else-of : tie.After-length-in → tie.Else1
-else-of n = n .before .before .before .before
+    let s = start (laid (found (judged (else-of n .before)))) in
+    taken-within (shapeOf (s .args .c)) (s .args .bytes .now) (length-is n)
 
 exchange-requires : tie.Need-exchange-requires
 exchange-requires c κs =
@@ -136,7 +146,7 @@ exchange-requires c κs =
     let x = laid k in
     let s = start x in
     change-asked _ _ (s .pre .0 .sound) (store-bytes x) (s .args .strict) (s .pre .0 .free) _ (handed-bytes x) (sought k) (s .args .c) (s .pre .1 .whole)
-    (done-is e) (s .pre .0 .laid) (x .extent-of .ensures) (n .before .end-of .ensures) (n .length-in .ensures)
+    (done-is e) (s .pre .0 .laid) (x .extent-of .ensures) (n .before .before .end-of .ensures) (length-is n)
 
 returns-3 : tie.Need-returns-3
 returns-3 c =
@@ -147,11 +157,11 @@ returns-3 c =
     let x = laid k in
     let s = start x in
     change-done _ _ (s .pre .0 .sound) (store-bytes x) (s .args .strict) (s .pre .0 .free) _ (handed-bytes x) (sought k) (s .args .c) (s .pre .1 .whole)
-    (done-is e) (n .length-in .ensures) (y .exchange .ensures)
+    (done-is e) (length-is n) (y .exchange .ensures)
 
 pub change-spec : {M : Type 1} → statement M
 change-spec =
     tie.close
     (tie.spec (λ c κs. search needs) (λ c. search needs) (λ c. search needs) part-seek-end seek-requires judge-place-requires (λ c. search needs)
-    (λ c. search needs) returns (λ c κs. search needs) (λ c. search needs) returns-2 end-of-requires (λ c κs. search needs) (λ c. search needs)
-    (λ c. search needs) part-exchange-end exchange-requires (λ c. search needs) returns-3)
+    (λ c. search needs) returns (λ c κs. search needs) (λ c. search needs) returns-2 end-of-requires (λ c κs. search needs) (λ c κs. search needs)
+    (λ c. search needs) (λ c. search needs) part-exchange-end exchange-requires (λ c. search needs) returns-3)
