@@ -1045,37 +1045,51 @@ unsafe fn spot(bytes: At, layout: &Layout, table: usize, key: &[u8]) -> Spot {
 }
 
 #[inline(always)]
-fn put_at(store: &mut [u8], layout: &Layout, table: usize, spot: Spot, row: &[u8]) -> u32 {
-    let Spot { number, byte, held } = spot;
+fn create_at(store: &mut [u8], layout: &Layout, table: usize, spot: Spot, row: &[u8]) -> u32 {
+    let Spot { number, byte, .. } = spot;
+    let count = layout.row[table + 1] - layout.row[table];
+    if count == LIMITS[table] {
+        return 9;
+    }
     // SAFETY: the survey has passed.
     let end = unsafe { layout.start(layout.row[4]) };
-    match held {
-        Some(length) => {
-            if length != row.len() {
-                store.copy_within(byte + length..end, byte + row.len());
-                set_16(store, 8 + 2 * number, row.len());
-            }
-            store[byte..byte + row.len()].copy_from_slice(row);
-        }
-        None => {
-            let count = layout.row[table + 1] - layout.row[table];
-            if count == LIMITS[table] {
-                return 9;
-            }
-            // the rows behind move by the row and its length, those before it by the length alone
-            let length_at = 8 + 2 * number;
-            store.copy_within(byte..end, byte + 2 + row.len());
-            store.copy_within(length_at..byte, length_at + 2);
-            store[byte + 2..byte + 2 + row.len()].copy_from_slice(row);
-            set_16(store, length_at, row.len());
-            set_16(store, 2 * table, count + 1);
-        }
+    // the rows behind move by the row and its length, those before it by the length alone
+    let length_at = 8 + 2 * number;
+    store.copy_within(byte..end, byte + 2 + row.len());
+    store.copy_within(length_at..byte, length_at + 2);
+    store[byte + 2..byte + 2 + row.len()].copy_from_slice(row);
+    set_16(store, length_at, row.len());
+    set_16(store, 2 * table, count + 1);
+    0
+}
+
+/// The row held at the spot has this length.
+#[inline(always)]
+fn change_at(store: &mut [u8], layout: &Layout, spot: Spot, length: usize, row: &[u8]) -> u32 {
+    let Spot { number, byte, .. } = spot;
+    if length != row.len() {
+        // SAFETY: the survey has passed.
+        let end = unsafe { layout.start(layout.row[4]) };
+        store.copy_within(byte + length..end, byte + row.len());
+        set_16(store, 8 + 2 * number, row.len());
     }
+    store[byte..byte + row.len()].copy_from_slice(row);
     0
 }
 
 #[inline(never)]
-pub fn owner_put(store: &mut [u8], table: u32, row: &[u8]) -> u32 {
+pub fn owner_create(store: &mut [u8], table: u32, row: &[u8]) -> u32 {
+    owner_row::<true>(store, table, row)
+}
+
+#[inline(never)]
+pub fn owner_change(store: &mut [u8], table: u32, row: &[u8]) -> u32 {
+    owner_row::<false>(store, table, row)
+}
+
+/// The owner's create, or its change.
+#[inline(always)]
+fn owner_row<const CREATE: bool>(store: &mut [u8], table: u32, row: &[u8]) -> u32 {
     let mut layout = Layout::new();
     match judge_store(store, &mut layout) {
         0 => {}
@@ -1088,12 +1102,27 @@ pub fn owner_put(store: &mut [u8], table: u32, row: &[u8]) -> u32 {
     };
     // SAFETY: the store was judged, and the key is legal.
     let spot = unsafe { spot(store.as_ptr(), &layout, table, key) };
-    put_at(store, &layout, table, spot, row)
+    match spot.held {
+        None if CREATE => create_at(store, &layout, table, spot, row),
+        None => 10,
+        Some(_) if CREATE => 18,
+        Some(length) => change_at(store, &layout, spot, length, row),
+    }
 }
 
-/// A put that the principal may make at every column, and that the storage of the row held and of the new one lets it make.
 #[inline(never)]
-pub fn principal_put(store: &mut [u8], model: u32, name: &[u8], level: u32, table: u32, row: &[u8]) -> u32 {
+pub fn principal_create(store: &mut [u8], model: u32, name: &[u8], level: u32, table: u32, row: &[u8]) -> u32 {
+    principal_row::<true>(store, model, name, level, table, row)
+}
+
+#[inline(never)]
+pub fn principal_change(store: &mut [u8], model: u32, name: &[u8], level: u32, table: u32, row: &[u8]) -> u32 {
+    principal_row::<false>(store, model, name, level, table, row)
+}
+
+/// A create or a change that the principal may make at every column, and that the storage of the row held and of the new one lets it make.
+#[inline(always)]
+fn principal_row<const CREATE: bool>(store: &mut [u8], model: u32, name: &[u8], level: u32, table: u32, row: &[u8]) -> u32 {
     let mut layout = Layout::new();
     match judge_store(store, &mut layout) {
         0 => {}
@@ -1116,18 +1145,27 @@ pub fn principal_put(store: &mut [u8], model: u32, name: &[u8], level: u32, tabl
         spot(store.as_ptr(), &layout, table, key)
     };
     let given = row[row.len() - 2];
-    let lets = match spot.held.map(|length| store[spot.byte + length - 2]) {
-        Some(5) => false,
-        Some(4) => given == 4,
-        _ => given < 4,
-    };
-    if !lets {
-        return 11;
+    match spot.held {
+        None if !CREATE => 10,
+        None if given > 3 => 11,
+        None => create_at(store, &layout, table, spot, row),
+        Some(_) if CREATE => 18,
+        Some(length) => {
+            let lets = match store[spot.byte + length - 2] {
+                5 => false,
+                4 => given == 4,
+                _ => given < 4,
+            };
+            if lets {
+                change_at(store, &layout, spot, length, row)
+            } else {
+                11
+            }
+        }
     }
-    put_at(store, &layout, table, spot, row)
 }
 
-/// The first cause met at the columns that a put writes, ascending; 0 for none.
+/// The first cause met at the columns that a create and a change write, ascending; 0 for none.
 #[inline(always)]
 unsafe fn written_columns(bytes: At, layout: &Layout, request: &Request, table: usize, key: &[u8]) -> u32 {
     let view = match named_view(bytes, layout, request, &mut Picked::default()) {

@@ -23,6 +23,7 @@ struct version {
     owner_edit *edit;
     read_image *read;
     write_image *write;
+    uint32_t change, remove;
 };
 
 #define VERSION(v)                                                       \
@@ -32,7 +33,7 @@ struct version {
     __attribute__((weak)) read_image v##_bench_read_image;               \
     __attribute__((weak)) write_image v##_bench_write_image;             \
     static struct version v(void) {                                      \
-        return (struct version){v##_dugwalen_is_access_allowed, v##_bench_decide, v##_bench_owner_edit, v##_bench_read_image, v##_bench_write_image}; \
+        return (struct version){v##_dugwalen_is_access_allowed, v##_bench_decide, v##_bench_owner_edit, v##_bench_read_image, v##_bench_write_image, 1, 2}; \
     }
 VERSION(before)
 VERSION(now)
@@ -97,15 +98,15 @@ static void make_full(void) {
 
 /* ---- the rows of the table */
 
-enum work { AGENT_RIDGE, AGENT_LAST, AGENT_FIRST, AGENT_NONE, STORE_RIDGE, STORE_LAST, STORE_FIRST, STORE_NONE, REPLACE, TWO_PUTS, REMOVE_PUT,
+enum work { AGENT_RIDGE, AGENT_LAST, AGENT_FIRST, AGENT_NONE, STORE_RIDGE, STORE_LAST, STORE_FIRST, STORE_NONE, CHANGE, TWO_CHANGES, REMOVE_CREATE,
             READ_RIDGE, WRITE_RIDGE, READ_FULL, WRITE_FULL, WORKS };
 
 static const char *const titles[WORKS] = {
     "C call, the Ridge tables, P1", "C call, full tables, the last view row decides", "C call, full tables, the first view row decides",
     "C call, full tables, no view row matches", "decision on a store, the Ridge tables, P1",
     "decision on a store, full tables, the last view row decides", "decision on a store, full tables, the first view row decides",
-    "decision on a store, full tables, no view row matches", "put that replaces the first mapping row", "two puts that replace it, shorter, then longer",
-    "removal and put of the first context row", "image reading, the Ridge tables", "image writing, the Ridge tables", "image reading, full tables",
+    "decision on a store, full tables, no view row matches", "change of the first mapping row", "two changes of it, shorter, then longer",
+    "removal and create of the first context row", "image reading, the Ridge tables", "image writing, the Ridge tables", "image reading, full tables",
     "image writing, full tables"};
 
 static uint32_t variables[4][64];
@@ -136,8 +137,13 @@ static void make_requests(void) {
 }
 
 static int has(const struct version *v, enum work w) {
-    return w <= AGENT_NONE ? v->agent != NULL : w <= STORE_NONE ? v->decide != NULL : w <= REMOVE_PUT ? v->edit != NULL
+    return w <= AGENT_NONE ? v->agent != NULL : w <= STORE_NONE ? v->decide != NULL : w <= REMOVE_CREATE ? v->edit != NULL
            : (w == READ_RIDGE || w == READ_FULL) ? v->read != NULL : v->write != NULL;
+}
+
+/* A version from before creates were apart from changes does both by 0 and removes by 1. */
+static void number_operations(struct version *v) {
+    if (v->edit != NULL && v->edit(changed, ROOM, 0, 1, same_row, same_length) == 0) v->change = 0, v->remove = 1;
 }
 
 static uint64_t once(const struct version *v, enum work w) {
@@ -149,12 +155,12 @@ static uint64_t once(const struct version *v, enum work w) {
                         variable_bytes[k], 4 * variable_parts[k]);
     case STORE_RIDGE: case STORE_LAST: case STORE_FIRST: case STORE_NONE:
         return v->decide(k ? full : ridge, ROOM, 3, names[k], name_lengths[k], 3, 1, contexts[k], context_lengths[k], variables[k], variable_parts[k]);
-    case REPLACE: return v->edit(changed, ROOM, 0, 1, same_row, same_length);
-    case TWO_PUTS:
-        r = v->edit(changed, ROOM, 0, 1, short_row, short_length);
-        return r + v->edit(changed, ROOM, 0, 1, same_row, same_length);
-    case REMOVE_PUT:
-        r = v->edit(changed, ROOM, 1, 0, context_row, sizeof context_row);
+    case CHANGE: return v->edit(changed, ROOM, v->change, 1, same_row, same_length);
+    case TWO_CHANGES:
+        r = v->edit(changed, ROOM, v->change, 1, short_row, short_length);
+        return r + v->edit(changed, ROOM, v->change, 1, same_row, same_length);
+    case REMOVE_CREATE:
+        r = v->edit(changed, ROOM, v->remove, 0, context_row, sizeof context_row);
         return r + v->edit(changed, ROOM, 0, 0, context_row, sizeof context_row);
     case READ_RIDGE: return v->read(ridge, ridge_length, out);
     case WRITE_RIDGE: return v->write(ridge, ROOM, out, ROOM);
@@ -202,7 +208,8 @@ int main(int argc, char **argv) {
     make_full();
     make_requests();
     memcpy(changed, full, ROOM);
-    const struct version versions[2] = {before(), now()};
+    struct version versions[2] = {before(), now()};
+    for (int k = 0; k < 2; k++) number_operations(&versions[k]);
     printf("| work | before | now | now to before |\n|---|---|---|---|\n");
     for (enum work w = 0; w < WORKS; w++) {
         if (!has(&versions[0], w) || !has(&versions[1], w)) continue;

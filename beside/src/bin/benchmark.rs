@@ -204,18 +204,34 @@ mod proved {
             }
         }
 
-        pub fn owner_put(store: &mut [u8], table: u32, row: &[u8]) -> u32 {
-            unsafe { bench_owner_edit(store.as_mut_ptr(), store.len(), 0, table, row.as_ptr(), row.len()) }
+        const CREATE: u32 = 0;
+        const CHANGE: u32 = 1;
+        const REMOVE: u32 = 2;
+
+        pub fn owner_create(store: &mut [u8], table: u32, row: &[u8]) -> u32 {
+            unsafe { bench_owner_edit(store.as_mut_ptr(), store.len(), CREATE, table, row.as_ptr(), row.len()) }
+        }
+
+        pub fn owner_change(store: &mut [u8], table: u32, row: &[u8]) -> u32 {
+            unsafe { bench_owner_edit(store.as_mut_ptr(), store.len(), CHANGE, table, row.as_ptr(), row.len()) }
         }
 
         pub fn owner_remove(store: &mut [u8], table: u32, key: &[u8]) -> u32 {
-            unsafe { bench_owner_edit(store.as_mut_ptr(), store.len(), 1, table, key.as_ptr(), key.len()) }
+            unsafe { bench_owner_edit(store.as_mut_ptr(), store.len(), REMOVE, table, key.as_ptr(), key.len()) }
         }
 
-        pub fn principal_put(store: &mut [u8], model: u32, name: &[u8], level: u32, table: u32, row: &[u8]) -> u32 {
-            unsafe {
-                bench_principal_edit(store.as_mut_ptr(), store.len(), model, name.as_ptr(), name.len(), level, 0, table, row.as_ptr(), row.len())
-            }
+        pub fn principal_create(store: &mut [u8], model: u32, name: &[u8], level: u32, table: u32, row: &[u8]) -> u32 {
+            principal_row(store, model, name, level, CREATE, table, row)
+        }
+
+        pub fn principal_change(store: &mut [u8], model: u32, name: &[u8], level: u32, table: u32, row: &[u8]) -> u32 {
+            principal_row(store, model, name, level, CHANGE, table, row)
+        }
+
+        #[inline(always)]
+        fn principal_row(store: &mut [u8], model: u32, name: &[u8], level: u32, operation: u32, table: u32, row: &[u8]) -> u32 {
+            let (name, name_len) = (name.as_ptr(), name.len());
+            unsafe { bench_principal_edit(store.as_mut_ptr(), store.len(), model, name, name_len, level, operation, table, row.as_ptr(), row.len()) }
         }
 
         pub fn read_image(image: &[u8], store: &mut [u8; ROOM]) -> u32 {
@@ -622,33 +638,43 @@ fn store_rows(bench: &mut Bench) {
     let context = image::row_bytes(&full.rows()[0]);
     let (mut a, mut b) = (store_of(&image), store_of(&image));
     bench.row(
-        "put that replaces the first mapping row, same length",
-        || u64::from(store::owner_put(black_box(&mut a[..]), 1, black_box(&first))),
-        || u64::from(handwritten::owner_put(black_box(&mut b[..]), 1, black_box(&first))),
+        "change of the first mapping row, same length",
+        || u64::from(store::owner_change(black_box(&mut a[..]), 1, black_box(&first))),
+        || u64::from(handwritten::owner_change(black_box(&mut b[..]), 1, black_box(&first))),
     );
     bench.row(
-        "two puts that replace the first mapping row, shorter, then longer",
-        || u64::from(store::owner_put(black_box(&mut a[..]), 1, black_box(&short)) | store::owner_put(black_box(&mut a[..]), 1, black_box(&first))),
+        "two changes of the first mapping row, shorter, then longer",
         || {
             u64::from(
-                handwritten::owner_put(black_box(&mut b[..]), 1, black_box(&short))
-                    | handwritten::owner_put(black_box(&mut b[..]), 1, black_box(&first)),
+                store::owner_change(black_box(&mut a[..]), 1, black_box(&short)) | store::owner_change(black_box(&mut a[..]), 1, black_box(&first)),
+            )
+        },
+        || {
+            u64::from(
+                handwritten::owner_change(black_box(&mut b[..]), 1, black_box(&short))
+                    | handwritten::owner_change(black_box(&mut b[..]), 1, black_box(&first)),
             )
         },
     );
     bench.row(
-        "removal and put of the first context row",
+        "removal and create of the first context row",
         || {
             u64::from(
-                store::owner_remove(black_box(&mut a[..]), 0, black_box(&context)) | store::owner_put(black_box(&mut a[..]), 0, black_box(&context)),
+                store::owner_remove(black_box(&mut a[..]), 0, black_box(&context))
+                    | store::owner_create(black_box(&mut a[..]), 0, black_box(&context)),
             )
         },
         || {
             u64::from(
                 handwritten::owner_remove(black_box(&mut b[..]), 0, black_box(&context))
-                    | handwritten::owner_put(black_box(&mut b[..]), 0, black_box(&context)),
+                    | handwritten::owner_create(black_box(&mut b[..]), 0, black_box(&context)),
             )
         },
+    );
+    bench.row(
+        "create of the first mapping row, refused: it is held",
+        || u64::from(store::owner_create(black_box(&mut a[..]), 1, black_box(&first))),
+        || u64::from(handwritten::owner_create(black_box(&mut b[..]), 1, black_box(&first))),
     );
     bench.differ |= a != b;
 
@@ -671,20 +697,21 @@ fn store_rows(bench: &mut Bench) {
     let mut rows: Vec<(u32, Vec<u8>)> = full.rows().iter().map(|row| (row.table() as u32, image::row_bytes(row))).collect();
     Random::new(3415).shuffle(&mut rows);
     bench.row(
-        "growth from empty to full, 240 puts in random order",
+        "growth from empty to full, 240 creates in random order",
         || {
             a[..8].fill(0);
-            rows.iter().map(|(table, row)| u64::from(store::owner_put(&mut a[..], *table, black_box(row)))).sum()
+            rows.iter().map(|(table, row)| u64::from(store::owner_create(&mut a[..], *table, black_box(row)))).sum()
         },
         || {
             b[..8].fill(0);
-            rows.iter().map(|(table, row)| u64::from(handwritten::owner_put(&mut b[..], *table, black_box(row)))).sum()
+            rows.iter().map(|(table, row)| u64::from(handwritten::owner_create(&mut b[..], *table, black_box(row)))).sum()
         },
     );
     bench.differ |= a != b || a[..] != image[..];
 }
 
-/// Puts of rows that are held: of three columns, six and four, all of them granted; and one refused at the first column.
+/// Changes of rows that are held: of three columns, six and four, all of them granted; and one refused at the first column. Then creates,
+/// each of a row that the owner has removed.
 #[cfg(feature = "store")]
 fn principal_rows(bench: &mut Bench) {
     use proved::store;
@@ -705,15 +732,36 @@ fn principal_rows(bench: &mut Bench) {
         let (table, row) = (row.table() as u32, image::row_bytes(&row));
         let image = image::write(tables);
         let (mut a, mut b) = (store_of(&image), store_of(&image));
-        let number = handwritten::principal_put(&mut b[..], MODEL, caller, 3, table, &row);
+        let number = handwritten::principal_change(&mut b[..], MODEL, caller, 3, table, &row);
         bench.differ |= number != if title.contains("refused") { 5 } else { 0 };
         bench.row(
-            &format!("principal's put, {title}"),
-            || u64::from(store::principal_put(black_box(&mut a[..]), MODEL, black_box(caller), 3, table, black_box(&row))),
-            || u64::from(handwritten::principal_put(black_box(&mut b[..]), MODEL, black_box(caller), 3, table, black_box(&row))),
+            &format!("principal's change, {title}"),
+            || u64::from(store::principal_change(black_box(&mut a[..]), MODEL, black_box(caller), 3, table, black_box(&row))),
+            || u64::from(handwritten::principal_change(black_box(&mut b[..]), MODEL, black_box(caller), 3, table, black_box(&row))),
         );
         bench.differ |= a != b;
     }
+
+    let row = Row::Mapping(granted.mappings[0].clone());
+    let (table, key, row) = (row.table() as u32, image::key_bytes(&row.key()), image::row_bytes(&row));
+    let image = image::write(&granted);
+    let (mut a, mut b) = (store_of(&image), store_of(&image));
+    bench.row(
+        "owner's removal and principal's create, full tables, a mapping row",
+        || {
+            u64::from(
+                store::owner_remove(black_box(&mut a[..]), table, black_box(&key))
+                    | store::principal_create(black_box(&mut a[..]), MODEL, black_box(&last), 3, table, black_box(&row)),
+            )
+        },
+        || {
+            u64::from(
+                handwritten::owner_remove(black_box(&mut b[..]), table, black_box(&key))
+                    | handwritten::principal_create(black_box(&mut b[..]), MODEL, black_box(&last), 3, table, black_box(&row)),
+            )
+        },
+    );
+    bench.differ |= a[..image.len()] != image[..] || b[..image.len()] != image[..];
 }
 
 fn main() -> ExitCode {

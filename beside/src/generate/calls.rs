@@ -37,7 +37,7 @@ pub fn principal_call(random: &mut Random, world: &World, tables: &Tables) -> Ca
         let caller = caller(random, world, tables, |row| &row.write);
         let edit = edit(random, world, tables);
         tries -= 1;
-        if tries == 0 || [0, 10, 11].contains(&judge_principal(tables, &caller, &edit)) {
+        if tries == 0 || [0, 10, 11, 18].contains(&judge_principal(tables, &caller, &edit)) {
             return Call::Principal(caller, edit);
         }
     }
@@ -62,7 +62,25 @@ pub fn edit(random: &mut Random, world: &World, tables: &Tables) -> Edit {
     if random.chance(8) {
         spoil_row(random, &mut row);
     }
-    Edit::Put(row)
+    mostly_fitting(random, tables, row)
+}
+
+/// The edit that brings the row in: a change where its key is held, a create where it is not.
+pub fn fitting(tables: &Tables, row: Row) -> Edit {
+    if tables.held(&row.key()).is_some() {
+        Edit::Change(row)
+    } else {
+        Edit::Create(row)
+    }
+}
+
+/// The edit that brings the row in; now and then the other one, which is refused for a row held or absent.
+pub fn mostly_fitting(random: &mut Random, tables: &Tables, row: Row) -> Edit {
+    match fitting(tables, row) {
+        Edit::Change(row) if random.chance(20) => Edit::Create(row),
+        Edit::Create(row) if random.chance(20) => Edit::Change(row),
+        edit => edit,
+    }
 }
 
 pub fn with_key(row: Row, key: Key) -> Row {

@@ -225,32 +225,41 @@ fn ann() -> Caller {
     Caller { model: 3, name: "ann".into(), level: 1 }
 }
 
-/// A principal that may edit every row puts and removes a row of each table, with each storage held before and given, on tables
-/// with room and on full ones.
+fn by_ann(edit: Edit) -> Call {
+    Call::Principal(ann(), edit)
+}
+
+/// The owner, and Ann who may edit every row, create, change and remove a row of each table, with each storage held before or none and each
+/// given, in a table with room and in a full one. What every edit leaves is looked at.
 pub fn storages() -> (Tables, Vec<Call>) {
-    let ann = ann();
     let mut calls = Vec::new();
-    for table in [Table::Mapping, Table::Access, Table::View] {
+    for table in TABLES {
+        let row = |storage| stored(table, 100, storage);
+        let mut edits = vec![Edit::Remove(row(3).key())];
+        edits.extend((2..=5).flat_map(|given| [Edit::Create(row(given)), Edit::Change(row(given))]));
         for full in [false, true] {
+            let other = stored(table, 101, 3);
             if full {
-                calls.extend((0..table.limit()).map(|i| Call::Owner(Edit::Put(stored(table, 100 + i, 3)))));
+                // without the row, others one by one until there is no room
+                calls.push(Call::Owner(Edit::Remove(row(3).key())));
+                calls.extend((0..table.limit()).map(|i| Call::Owner(Edit::Create(stored(table, 101 + i, 3)))));
             }
-            let row = |storage| stored(table, 100, storage);
-            for held in 2..=5 {
-                for given in 2..=5 {
-                    calls.push(Call::Owner(Edit::Put(row(held))));
-                    calls.push(Call::Principal(ann.clone(), Edit::Put(row(given))));
+            for held in [None, Some(2), Some(3), Some(4), Some(5)] {
+                for edit in &edits {
+                    for by in [Call::Owner, by_ann] {
+                        // a full table has the row, or the other in its place
+                        calls.push(Call::Owner(Edit::Remove(row(3).key())));
+                        calls.push(Call::Owner(Edit::Remove(other.key())));
+                        match held {
+                            Some(storage) => calls.push(Call::Owner(Edit::Create(row(storage)))),
+                            None if full => calls.push(Call::Owner(Edit::Create(other.clone()))),
+                            None => {}
+                        }
+                        calls.push(by(edit.clone()));
+                        calls.push(Call::Image);
+                    }
                 }
-                calls.push(Call::Owner(Edit::Put(row(held))));
-                calls.push(Call::Principal(ann.clone(), Edit::Remove(row(held).key())));
-                calls.push(Call::Owner(Edit::Put(row(held))));
             }
-            for given in 2..=5 {
-                // a new row
-                calls.push(Call::Principal(ann.clone(), Edit::Put(stored(table, 0, given))));
-                calls.push(Call::Principal(ann.clone(), Edit::Remove(stored(table, 0, given).key())));
-            }
-            calls.push(Call::Image);
         }
     }
     (granted(), calls)
@@ -284,16 +293,18 @@ pub fn columns() -> (Tables, Vec<Call>) {
     (tables, calls)
 }
 
-/// While the view has these rows, Ann puts and removes a row that is not held, puts a held one as it is, and removes it.
+/// While the view has these rows, Ann changes a row that is not held, creates it and removes it; then creates one that is held, changes it,
+/// which leaves it as it is, and removes it.
 fn edits_under(set: &[View], table: Table, calls: &mut Vec<Call>) {
-    let by_ann = |edit: Edit| Call::Principal(ann(), edit);
-    calls.extend(set.iter().map(|row| Call::Owner(Edit::Put(Row::View(row.clone())))));
+    calls.extend(set.iter().map(|row| Call::Owner(Edit::Create(Row::View(row.clone())))));
     for number in 0..2 {
         let row = stored(table, number, 3);
-        calls.push(by_ann(Edit::Put(row.clone())));
+        calls.push(by_ann(Edit::Change(row.clone())));
+        calls.push(by_ann(Edit::Create(row.clone())));
         calls.push(by_ann(Edit::Remove(row.key())));
-        calls.push(Call::Owner(Edit::Put(row.clone())));
-        calls.push(by_ann(Edit::Put(row.clone())));
+        calls.push(Call::Owner(Edit::Create(row.clone())));
+        calls.push(by_ann(Edit::Create(row.clone())));
+        calls.push(by_ann(Edit::Change(row.clone())));
         calls.push(by_ann(Edit::Remove(row.key())));
         calls.push(Call::Owner(Edit::Remove(row.key())));
     }
@@ -398,30 +409,40 @@ fn rows() -> Vec<Row> {
 
 /// Every call with every field about the ends of its range.
 pub fn ranges() -> (Tables, Vec<Call>) {
-    let ann = ann();
+    let tables = granted();
     let mut calls: Vec<Call> = requests().into_iter().map(Call::Decide).collect();
     calls.extend(requests().into_iter().map(Call::Explain));
     calls.extend(matches());
     for row in rows() {
         let key = row.key();
-        calls.push(Call::Owner(Edit::Put(row.clone())));
-        calls.push(Call::Image);
-        calls.push(Call::Principal(ann.clone(), Edit::Put(row)));
-        calls.push(Call::Principal(ann.clone(), Edit::Remove(key.clone())));
-        calls.push(Call::Owner(Edit::Remove(key.clone())));
+        for by in [Call::Owner, by_ann] {
+            calls.push(by(Edit::Change(row.clone())));
+            calls.push(by(Edit::Create(row.clone())));
+            // from here on a row with this key is held, unless the key is out of range
+            calls.push(Call::Owner(Edit::Create(with_key(stored(key.table(), 0, 3), key.clone()))));
+            calls.push(by(Edit::Create(row.clone())));
+            calls.push(by(Edit::Change(row.clone())));
+            calls.push(Call::Image);
+            calls.push(by(Edit::Remove(key.clone())));
+            calls.push(Call::Owner(Edit::Remove(key.clone())));
+            // the empty context, where Ann is judged, comes back
+            calls.extend(tables.held(&key).map(|row| Call::Owner(Edit::Create(row))));
+        }
         for column in NUMBERS {
             calls.push(Call::Encode(column, key.clone()));
         }
     }
-    for edit in [Edit::Remove(Key::Mapping { model: 1, name: "m".into() }), Edit::Put(Row::Context(Context { name: "".into() }))] {
+    let row = stored(Table::Mapping, 0, 3);
+    let context = Row::Context(Context { name: "".into() });
+    for edit in [Edit::Create(row.clone()), Edit::Change(row.clone()), Edit::Remove(row.key()), Edit::Change(context)] {
         for number in NUMBERS {
-            calls.push(Call::Principal(Caller { model: number, ..ann.clone() }, edit.clone()));
-            calls.push(Call::Principal(Caller { level: number, ..ann.clone() }, edit.clone()));
+            calls.push(Call::Principal(Caller { model: number, ..ann() }, edit.clone()));
+            calls.push(Call::Principal(Caller { level: number, ..ann() }, edit.clone()));
         }
-        calls.extend(octets().map(|name| Call::Principal(Caller { name, ..ann.clone() }, edit.clone())));
+        calls.extend(octets().map(|name| Call::Principal(Caller { name, ..ann() }, edit.clone())));
     }
     calls.push(Call::Image);
-    (granted(), calls)
+    (tables, calls)
 }
 
 fn keys() -> [Key; 6] {

@@ -53,7 +53,7 @@ const BYTES: &[u8] = b"019/:afg`AFG@.-+ \t\r\0\x7f\x80\xff_,zp";
 
 pub fn malformed(random: &mut Random, line: &str) -> Vec<u8> {
     let mut bytes = line.as_bytes().to_vec();
-    match random.below(11) {
+    match random.below(12) {
         0 => {
             let word = random.of(&[
                 "4294967296",
@@ -97,6 +97,7 @@ pub fn malformed(random: &mut Random, line: &str) -> Vec<u8> {
         5 => bytes = lengthened(line, random.of(&[2049, 2050, 4095, 4096, 4097, 8192])).into_bytes(),
         6 => bytes = vec![random.of(BYTES); random.of(&[0, 1, 2048, 2049, 5000])],
         7 => bytes = of_another_table(random, line).into_bytes(),
+        8 => bytes = of_another_edit(random, line).into_bytes(),
         _ => {
             for _ in 0..random.between(1, 2) {
                 alter(random, &mut bytes);
@@ -113,6 +114,15 @@ const TABLE_WORDS: [&str; 4] = ["context", "mapping", "access", "view"];
 fn of_another_table(random: &mut Random, line: &str) -> String {
     let other = random.of(&TABLE_WORDS);
     let words = line.split(' ').map(|word| if TABLE_WORDS.contains(&word) { other } else { word });
+    words.collect::<Vec<&str>>().join(" ")
+}
+
+const EDIT_WORDS: [&str; 3] = ["create", "change", "remove"];
+
+/// A row or a key behind the word of any edit, or behind one that is none.
+fn of_another_edit(random: &mut Random, line: &str) -> String {
+    let other = random.of(&["create", "change", "remove", "put", "add"]);
+    let words = line.split(' ').map(|word| if EDIT_WORDS.contains(&word) { other } else { word });
     words.collect::<Vec<&str>>().join(" ")
 }
 

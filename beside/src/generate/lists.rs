@@ -1,6 +1,6 @@
 //! Pairs of lists of calls with two groups, for the demand that other traffic does not change what a group's members are told.
 
-use super::calls::{edit, principal_call};
+use super::calls::{edit, fitting, mostly_fitting, principal_call};
 use super::requests::request;
 use super::walks::start;
 use super::world::{any_column, grant, held_key, identifier, row, table, World, OWN_TABLES};
@@ -53,13 +53,17 @@ impl Circle {
         }
     }
 
-    /// A shared put maps members to the group alone and its access rows to chosen views or none; a member's edit is of the circle; a
-    /// member's walk is by a view that refuses every instance outside of the circle.
+    /// A shared create or change maps members to the group alone and its access rows to chosen views or none; a member's edit is of the
+    /// circle; a member's walk is by a view that refuses every instance outside of the circle.
     fn keeps_conditions(&self, tables: &Tables, call: &Call) -> bool {
-        let keeps = |edit: &Edit| match edit {
-            Edit::Put(Row::Mapping(r)) => r.group == self.group,
-            Edit::Put(Row::Access(r)) => [&r.read, &r.write, &r.notify].iter().all(|view| view.is_empty() || self.views.contains(view)),
+        let names_own = |row: &Row| match row {
+            Row::Mapping(r) => r.group == self.group,
+            Row::Access(r) => [&r.read, &r.write, &r.notify].iter().all(|view| view.is_empty() || self.views.contains(view)),
             _ => true,
+        };
+        let keeps = |edit: &Edit| match edit {
+            Edit::Create(row) | Edit::Change(row) => names_own(row),
+            Edit::Remove(_) => true,
         };
         match call {
             Call::Owner(edit) => keeps(edit),
@@ -103,7 +107,7 @@ fn lies_within(row: &View, (subtree, mask): &(Identifier, Vec<u8>)) -> bool {
     row.subtree.len() >= subtree.len() && (0..subtree.len()).all(agrees)
 }
 
-/// Two starts whose circles agree: the same rows of the circle in both, such as members and the owner may put there, and others apart.
+/// Two starts whose circles agree: the same rows of the circle in both, such as members and the owner may bring there, and others apart.
 pub fn agreeing_starts(random: &mut Random, world: &World, circle: &Circle) -> [Tables; 2] {
     let mut shared = Tables::default();
     for row in opening_rows(random, circle) {
@@ -112,7 +116,7 @@ pub fn agreeing_starts(random: &mut Random, world: &World, circle: &Circle) -> [
         }
     }
     for _ in 0..random.below(24) {
-        if let Edit::Put(row) = circle_edit(random, world, circle, &shared) {
+        if let Edit::Create(row) | Edit::Change(row) = circle_edit(random, world, circle, &shared) {
             put_with_room(&mut shared, row);
         }
     }
@@ -143,7 +147,7 @@ pub fn two_lists(random: &mut Random, world: &World, circle: &Circle, starts: &[
     let opening = opening_rows(random, circle);
     for step in 0..length {
         let next = match opening.get(step) {
-            Some(row) => Call::Owner(Edit::Put(row.clone())),
+            Some(row) => Call::Owner(fitting(&tables[0], row.clone())),
             None => shared_call(random, world, circle, &tables[0]),
         };
         let full = tables.iter().any(|tables| answer(&mut tables.clone(), &next) == "9");
@@ -236,7 +240,7 @@ fn circle_edit(random: &mut Random, world: &World, circle: &Circle, guide: &Tabl
         return Edit::Remove(held_key(random, world, guide, table));
     }
     let view = |random: &mut Random| if random.chance(20) { Vec::new() } else { random.pick(&circle.views).clone() };
-    Edit::Put(match row(random, world, table) {
+    let row = match row(random, world, table) {
         Row::Mapping(r) => Row::Mapping(Mapping { model, name, group: circle.group.clone(), ..r }),
         Row::Access(r) => {
             let (read, write, notify) = (view(random), view(random), view(random));
@@ -247,7 +251,8 @@ fn circle_edit(random: &mut Random, world: &World, circle: &Circle, guide: &Tabl
             Row::View(View { name: random.pick(&circle.views).clone(), subtree, mask, ..r })
         }
         row => row,
-    })
+    };
+    mostly_fitting(random, guide, row)
 }
 
 fn below_family(random: &mut Random, circle: &Circle) -> (Identifier, Vec<u8>) {
@@ -266,7 +271,7 @@ fn other_call(random: &mut Random, world: &World, circle: &Circle, tables: &Tabl
         let rows = granted.rows();
         let row = random.pick(&rows).clone();
         if !circle.has_key(&row.key()) {
-            return Call::Owner(Edit::Put(row));
+            return Call::Owner(mostly_fitting(random, tables, row));
         }
     }
     match random.below(7) {
@@ -277,7 +282,7 @@ fn other_call(random: &mut Random, world: &World, circle: &Circle, tables: &Tabl
     }
 }
 
-/// The conditions on a list: those on shared calls; others have no edit accepted in the circle, and no shared put of the circle is
+/// The conditions on a list: those on shared calls; others have no edit accepted in the circle, and no shared create in the circle is
 /// answered 9.
 pub fn list_keeps(circle: &Circle, start: &Tables, list: &[Call]) -> bool {
     let mut tables = start.clone();

@@ -18,3 +18,4 @@ pub const NO_INSTANCE: Number = 13;
 pub const TORN: Number = 14;
 pub const NOT_ASCENDING: Number = 15;
 pub const END_OF_MIB_VIEW: Number = 17;
+pub const ROW_HELD: Number = 18;

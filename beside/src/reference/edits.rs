@@ -8,30 +8,31 @@ use super::tables::Tables;
 
 #[derive(Clone, Debug, PartialEq, Eq)]
 pub enum Edit {
-    Put(Row),
+    Create(Row),
+    Change(Row),
     Remove(Key),
 }
 
 impl Edit {
     pub fn key(&self) -> Key {
         match self {
-            Edit::Put(row) => row.key(),
+            Edit::Create(row) | Edit::Change(row) => row.key(),
             Edit::Remove(key) => key.clone(),
         }
     }
 
     fn legal(&self) -> bool {
         match self {
-            Edit::Put(row) => row.legal(),
+            Edit::Create(row) | Edit::Change(row) => row.legal(),
             Edit::Remove(key) => key.legal(),
         }
     }
 
-    /// The columns that it writes: a put all that the table lists, a removal the status, which is the last of them.
+    /// The columns that it writes: a create and a change all that the table lists, a removal the status, which is the last of them.
     fn columns(&self) -> &'static [u32] {
         let listed = instance::columns(self.key().table());
         match self {
-            Edit::Put(_) => listed,
+            Edit::Create(_) | Edit::Change(_) => listed,
             Edit::Remove(_) => &listed[listed.len() - 1..],
         }
     }
@@ -59,10 +60,10 @@ pub fn owner_edit(tables: &mut Tables, edit: &Edit) -> Number {
     if !edit.legal() {
         return OUT_OF_RANGE;
     }
-    if is_absent_removal(tables, edit) {
-        return ROW_ABSENT;
+    match judge_held(tables, edit) {
+        SUCCESS => apply(tables, edit),
+        refusal => refusal,
     }
-    apply(tables, edit)
 }
 
 pub fn principal_edit(tables: &mut Tables, caller: &Caller, edit: &Edit) -> Number {
@@ -88,8 +89,9 @@ pub fn judge_principal(tables: &Tables, caller: &Caller, edit: &Edit) -> Number 
             return answer;
         }
     }
-    if is_absent_removal(tables, edit) {
-        return ROW_ABSENT;
+    let answer = judge_held(tables, edit);
+    if answer != SUCCESS {
+        return answer;
     }
     if !storage_allows(edit, tables.held(&key).and_then(|row| row.storage())) {
         return STORAGE_FORBIDS;
@@ -97,39 +99,41 @@ pub fn judge_principal(tables: &Tables, caller: &Caller, edit: &Edit) -> Number 
     SUCCESS
 }
 
-fn is_absent_removal(tables: &Tables, edit: &Edit) -> bool {
+/// A row to create must not be held, whatever its status; a row to change or to remove must.
+fn judge_held(tables: &Tables, edit: &Edit) -> Number {
+    let is_held = tables.held(&edit.key()).is_some();
     match edit {
-        Edit::Remove(key) => tables.held(key).is_none(),
-        Edit::Put(_) => false,
+        Edit::Create(_) if is_held => ROW_HELD,
+        Edit::Change(_) | Edit::Remove(_) if !is_held => ROW_ABSENT,
+        _ => SUCCESS,
     }
 }
 
-/// A put may not give storage 4 or 5 to a row that lacks it (a new row lacks it), nor alter storage 4, nor touch a row of 5;
-/// a row of 4 or 5 may not be removed.
+/// A create may not give storage 4 or 5. A change may not give them to a row that lacks them, nor alter storage 4, nor touch a row of 5.
+/// A row of 4 or 5 may not be removed.
 fn storage_allows(edit: &Edit, held: Option<u32>) -> bool {
     match edit {
-        Edit::Remove(_) => held != Some(4) && held != Some(5),
-        Edit::Put(row) => {
-            let given = row.storage();
-            match held {
-                Some(5) => false,
-                Some(4) => given == Some(4),
-                _ => given != Some(4) && given != Some(5),
-            }
-        }
+        Edit::Create(row) => !matches!(row.storage(), Some(4 | 5)),
+        Edit::Change(row) => match held {
+            Some(5) => false,
+            Some(4) => row.storage() == Some(4),
+            _ => !matches!(row.storage(), Some(4 | 5)),
+        },
+        Edit::Remove(_) => !matches!(held, Some(4 | 5)),
     }
 }
 
-/// A put of a new row wants room; rows out of service take room too.
+/// A create wants room; rows out of service take room too.
 fn apply(tables: &mut Tables, edit: &Edit) -> Number {
     match edit {
-        Edit::Put(row) => {
+        Edit::Create(row) => {
             let table = row.table();
-            if tables.held(&row.key()).is_none() && tables.count(table) == table.limit() {
+            if tables.count(table) == table.limit() {
                 return TABLE_FULL;
             }
             tables.put(row.clone());
         }
+        Edit::Change(row) => tables.put(row.clone()),
         Edit::Remove(key) => tables.remove(key),
     }
     SUCCESS

@@ -181,7 +181,8 @@ impl<'a> Words<'a> {
 
     fn edit(&mut self) -> Option<Edit> {
         match self.next()? {
-            b"put" => Some(Edit::Put(self.row()?)),
+            b"create" => Some(Edit::Create(self.row()?)),
+            b"change" => Some(Edit::Change(self.row()?)),
             b"remove" => Some(Edit::Remove(self.key()?)),
             _ => None,
         }
@@ -359,7 +360,8 @@ fn caller_text(caller: &Caller) -> String {
 
 fn edit_text(edit: &Edit) -> String {
     match edit {
-        Edit::Put(row) => format!("put {}", row_text(row)),
+        Edit::Create(row) => format!("create {}", row_text(row)),
+        Edit::Change(row) => format!("change {}", row_text(row)),
         Edit::Remove(key) => format!("remove {}", key_text(key)),
     }
 }

@@ -39,8 +39,10 @@ fn lines() {
         let world = World::any(random);
         let tables = tables(random, &world);
         for row in tables.rows() {
-            let put = Call::Owner(Edit::Put(row));
-            assert_eq!(call_of(call_text(&put).as_bytes()), Some(put));
+            for edit in [Edit::Create(row.clone()), Edit::Change(row.clone()), Edit::Remove(row.key())] {
+                let call = Call::Owner(edit);
+                assert_eq!(call_of(call_text(&call).as_bytes()), Some(call));
+            }
         }
         for _ in 0..50 {
             let call = call(random, &world, &tables);

@@ -30,6 +30,7 @@ pub enum Fault {
     Torn,
     NotAscending,
     TooShort,
+    RowHeld,
 }
 
 // The answer of a decision request.
@@ -82,6 +83,7 @@ pub fn fault_number(f: Fault) -> u32
         Fault::Torn => 14,
         Fault::NotAscending => 15,
         Fault::TooShort => 16,
+        Fault::RowHeld => 18,
     }
 }
 

@@ -7,7 +7,7 @@ use Rattle.answers.specs.declared.Written.{Written}
 use Rattle.answers.specs.declared.Written.the-variants.{Length, Unwritten}
 use Rattle.answers.specs.Numbers.{faultNumber}
 use Rattle.edit_rules.specs.declared.Operation.{Operation}
-use Rattle.edit_rules.specs.declared.Operation.the-variants.{Put, Remove}
+use Rattle.edit_rules.specs.declared.Operation.the-variants.{Create, Change, Remove}
 use Rattle.rows.specs.declared.Table.{Table}
 use Rattle.rows.specs.declared.Table.the-variants.{Context, Mapping, Access, View}
 
@@ -15,9 +15,9 @@ use Rattle.rows.specs.declared.Table.the-variants.{Context, Mapping, Access, Vi
 abbrev pub tableNumbered : ℕ → Table
 tableNumbered n = cond (eqb n 0) Context (cond (eqb n 1) Mapping (cond (eqb n 2) Access View))
 
--- put, then remove
+-- create, change, then remove
 abbrev pub operationNumbered : ℕ → Operation
-operationNumbered n = cond (eqb n 0) Put Remove
+operationNumbered n = cond (eqb n 0) Create (cond (eqb n 1) Change Remove)
 
 -- a length, or a refusal's number above all lengths
 abbrev pub lengthNumber : Written → ℕ

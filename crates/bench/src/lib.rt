@@ -32,7 +32,10 @@ pub fn operation_numbered(n: u32) -> Operation
     ensures { λ r. ⌜ r ≡ operationNumbered n ⌝ }
 {
     if n == 0 {
-        return Operation::Put;
+        return Operation::Create;
+    }
+    if n == 1 {
+        return Operation::Change;
     }
     Operation::Remove
 }

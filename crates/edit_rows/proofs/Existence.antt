@@ -24,7 +24,7 @@ use Rattle.edit_rules.specs.declared.Edited.{Edited}
 use Rattle.edit_rules.specs.declared.Edited.the-variants.{Done, Barred, Faulty}
 use Rattle.edit_rules.specs.Edits.{Outcome, editOf, shapeOf, edit, isContext}
 use Rattle.edit_rows.specs.Promise.{Edits, lengthIn}
-use Rattle.edit_rows.proofs.Stores.{faulty-done, answerAt, change-refused, change-asked, change-done}
+use Rattle.edit_rows.proofs.Stores.{faulty-done, answerAt, place-refused, place-asked, place-done}
 
 pub record Made (f : Tables → Outcome) (w : List ℕ) : Type 0 where
   pub left : List ℕ
@@ -46,18 +46,18 @@ module _ (o : Operation) (t : Table) (w : List ℕ) (h : isSound w ≡ true) (b 
 
   made-as : (r : Edited) → r ≡ answerAt t w h b strict n bytes d sought o → Made (λ ts. edit strict ts (editOf o t bytes)) w
   made-as Done e =
-      let a = change-asked t w h b strict n bytes d sought o f (sym e) {x = extentOf t (layoutOf w)} {end = endOf w (layoutOf w .views)} refl refl refl refl in
+      let a = place-asked t w h b strict n bytes d sought o f (sym e) {x = extentOf t (layoutOf w)} {end = endOf w (layoutOf w .views)} refl refl refl refl in
       let c = octets-take (lengthIn (shapeOf o) (length bytes) - 0) bytes d in
       record {
         left = after b (a .0) row c (a .1);
         answered = Done;
-        promise = change-done t w h b strict n bytes d sought o f (sym e) refl (after-exchanges b (a .0) row c (a .1));
+        promise = place-done t w h b strict n bytes d sought o f (sym e) refl (after-exchanges b (a .0) row c (a .1));
         octets = after-octets b (a .0) row c (a .1);
       }
   made-as (Barred c) e =
-      record { left = w; answered = Barred c; promise = change-refused t w h b strict n bytes d sought o f (Barred c) e barred-done; octets = b }
+      record { left = w; answered = Barred c; promise = place-refused t w h b strict n bytes d sought o f (Barred c) e barred-done; octets = b }
   made-as (Faulty g) e =
-      record { left = w; answered = Faulty g; promise = change-refused t w h b strict n bytes d sought o f (Faulty g) e faulty-done; octets = b }
+      record { left = w; answered = Faulty g; promise = place-refused t w h b strict n bytes d sought o f (Faulty g) e faulty-done; octets = b }
 
   pub edit-made : Made (λ ts. edit strict ts (editOf o t bytes)) w
   edit-made = made-as (answerAt t w h b strict n bytes d sought o) refl

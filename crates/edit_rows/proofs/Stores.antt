@@ -40,7 +40,7 @@ use Rattle.table_update.proofs.Splits.{length-rows}
 use Rattle.table_update.proofs.Stores.{rowKey, sound-whole, sound-ascends, sound-put, sound-removed, sought-exchanges, one-row}
 use Rattle.table_update.proofs.Rooms.{image-in, room-for, room-removed}
 use Rattle.edit_rules.specs.declared.Operation.{Operation}
-use Rattle.edit_rules.specs.declared.Operation.the-variants.{Put, Remove}
+use Rattle.edit_rules.specs.declared.Operation.the-variants.{Create, Change, Remove}
 use Rattle.rows.specs.declared.Shape.{Shape}
 use Rattle.rows.specs.declared.Shape.the-variants.{Row, Key}
 use Rattle.edit_rules.specs.declared.Edited.{Edited}
@@ -178,10 +178,11 @@ placed-done none false e = refl
 placed-done (some g) full e = absurd (faulty-done e)
 
 -- Done only where the row is held, or is put where there is room
-done-room : (strict : Bool) (o : Operation) (h : Bool) (old new n m : ℕ) → placed (placeFault strict o h old new) (fullAt o h n m) ≡ Done → h ≡ false
+done-room : (strict : Bool) (o : Operation) (h : Bool) (old new n m : ℕ) → placed (placeFault strict o h old new) (fullAt o n m) ≡ Done → h ≡ false
     → (shapeOf o ≡ Row) × (m < n)
 done-room strict o true old new n m e f = clash refl f
-done-room strict Put false old new n m e f = (refl, leb-false n m (placed-done (placeFault strict Put false old new) (leb n m) e))
+done-room strict Create false old new n m e f = (refl, leb-false n m (placed-done (placeFault strict Create false old new) (leb n m) e))
+done-room strict Change false old new n m e f = absurd (faulty-done e)
 done-room strict Remove false old new n m e f = absurd (faulty-done e)
 
 -- ---- the bytes handed: where the key ends, and what comes into the table
@@ -206,7 +207,7 @@ comes-taken : (y : Shape) (t : Table) (bytes : List ℕ) → Octets bytes → fa
 comes-taken Row t bytes d f = one-row t bytes d f
 comes-taken Key t bytes d f = refl
 
--- ---- a row changed in a sound store
+-- ---- a row of a sound store edited
 
 module _ (t : Table) (w : List ℕ) (h : isSound w ≡ true) (b : Octets w) (strict : Bool) (n : strict ≡ true → isContext t ≡ false)
     (bytes : List ℕ) (d : Octets bytes) {p : Place} (s : Sought w (extentOf t (layoutOf w)) (rowKey t bytes) p) where
@@ -217,66 +218,66 @@ module _ (t : Table) (w : List ℕ) (h : isSound w ≡ true) (b : Octets w) (str
   rows = tableRows t w
 
   abbrev pub faultAt : Operation → Option Fault
-  faultAt c = placeFault strict c (p .present) (storageAt w p) (storageIn bytes)
+  faultAt o = placeFault strict o (p .present) (storageAt w p) (storageIn bytes)
 
   abbrev pub fullHere : Operation → Bool
-  fullHere c = fullAt c (p .present) (limit t) (extentOf t (layoutOf w) .count)
+  fullHere o = fullAt o (limit t) (extentOf t (layoutOf w) .count)
 
   abbrev pub answerAt : Operation → Edited
-  answerAt c = placed (faultAt c) (fullHere c)
+  answerAt o = placed (faultAt o) (fullHere o)
 
-  -- where the row is not held, the answer Done is of a put, and there is room
-  absent-done : (c : Operation) → answerAt c ≡ Done → p .present ≡ false → (shapeOf c ≡ Row) × (extentOf t (layoutOf w) .count < limit t)
-  absent-done c e = done-room strict c (p .present) (storageAt w p) (storageIn bytes) (limit t) (extentOf t (layoutOf w) .count) e
+  -- where the row is not held, the answer Done is of a row put, and there is room
+  absent-done : (o : Operation) → answerAt o ≡ Done → p .present ≡ false → (shapeOf o ≡ Row) × (extentOf t (layoutOf w) .count < limit t)
+  absent-done o e = done-room strict o (p .present) (storageAt w p) (storageIn bytes) (limit t) (extentOf t (layoutOf w) .count) e
 
-  room-left : (c : Operation) → answerAt c ≡ Done → isHeld key rows ≡ false → length rows < limit t
-  room-left c e m = omega (arith, absent-done c e (s .present-is ∙ m) .1, length-rows w (extentOf t (layoutOf w)))
+  room-left : (o : Operation) → answerAt o ≡ Done → isHeld key rows ≡ false → length rows < limit t
+  room-left o e m = omega (arith, absent-done o e (s .present-is ∙ m) .1, length-rows w (extentOf t (layoutOf w)))
 
-  removed-held : (c : Operation) → shapeOf c ≡ Key → answerAt c ≡ Done → p .present ≡ true
-  removed-held c q e = is-true (p .present) (λ m. let z : _≡_ {A = ℕ} 0 1 = cc (sym (absent-done c e m .0) ∙ q) in omega arith)
+  removed-held : (o : Operation) → shapeOf o ≡ Key → answerAt o ≡ Done → p .present ≡ true
+  removed-held o q e = is-true (p .present) (λ m. let z : _≡_ {A = ℕ} 0 1 = cc (sym (absent-done o e m .0) ∙ q) in omega arith)
 
-  room-taken : (c : Operation) (y : Shape) → shapeOf c ≡ y → faults (fieldsOf y t) bytes ≡ none → answerAt c ≡ Done → {end : ℕ} → ImageIn w end
+  room-taken : (o : Operation) (y : Shape) → shapeOf o ≡ y → faults (fieldsOf y t) bytes ≡ none → answerAt o ≡ Done → {end : ℕ} → ImageIn w end
       → RoomFor w p end (taken y bytes)
-  room-taken c Row q f e i = room-for t w bytes h b d f (room-left c e) i s
-  room-taken c Key q f e i = room-removed p i (removed-held c q e)
+  room-taken o Row q f e i = room-for t w bytes h b d f (room-left o e) i s
+  room-taken o Key q f e i = room-removed p i (removed-held o q e)
 
-  sound-after : (c : Operation) (y : Shape) → faults (fieldsOf y t) bytes ≡ none → answerAt c ≡ Done → {after : List ℕ}
+  sound-after : (o : Operation) (y : Shape) → faults (fieldsOf y t) bytes ≡ none → answerAt o ≡ Done → {after : List ℕ}
       → Exchanges t (rowsBefore key rows) (oneIf (isHeld key rows)) (comes y bytes) w after → isSound after ≡ true
-  sound-after c Row f e x = sound-put t w bytes h b d f (room-left c e) x
-  sound-after c Key f e x = sound-removed t w bytes h b d f (rw (key-whole t bytes f) at x)
+  sound-after o Row f e x = sound-put t w bytes h b d f (room-left o e) x
+  sound-after o Key f e x = sound-removed t w bytes h b d f (rw (key-whole t bytes f) at x)
 
-  module _ (c : Operation) (f : faults (fieldsOf (shapeOf c) t) bytes ≡ none) where
-    edit-is : edit strict (tables (storeRows w)) (editOf c t bytes)
-        ≡ judged (changed t (rowsBefore key rows) (oneIf (isHeld key rows)) (comes (shapeOf c) bytes) (storeRows w)) (tables (storeRows w)) (answerAt c)
+  module _ (o : Operation) (f : faults (fieldsOf (shapeOf o) t) bytes ≡ none) where
+    edit-is : edit strict (tables (storeRows w)) (editOf o t bytes)
+        ≡ judged (changed t (rowsBefore key rows) (oneIf (isHeld key rows)) (comes (shapeOf o) bytes) (storeRows w)) (tables (storeRows w)) (answerAt o)
     edit-is =
-        edit-change (storeRows w) (λ u. sound-whole u w h b) (λ u. sound-ascends u w h) strict t n bytes d c f
-        ∙ ap (judged (changed t (rowsBefore key rows) (oneIf (isHeld key rows)) (comes (shapeOf c) bytes) (storeRows w)) (tables (storeRows w)))
+        edit-change (storeRows w) (λ u. sound-whole u w h b) (λ u. sound-ascends u w h) strict t n bytes d o f
+        ∙ ap (judged (changed t (rowsBefore key rows) (oneIf (isHeld key rows)) (comes (shapeOf o) bytes) (storeRows w)) (tables (storeRows w)))
         (rw (storage-at s, s .present-is, length-rows w (extentOf t (layoutOf w))))
 
     -- what answering asks
-    pub storage-known : strict ≡ true → StorageKnown (shapeOf c) w p bytes
+    pub storage-known : strict ≡ true → StorageKnown (shapeOf o) w p bytes
     storage-known y = record {
       of-held = held-storage s t (n y) (table-inside t w h) (sound-whole t w h b);
       of-put = λ e. storage-room t (n y) bytes (subst (λ k. faults (fieldsOf k t) bytes ≡ none) e f);
     }
 
-    pub change-refused : (r : Edited) → r ≡ answerAt c → (r ≡ Done → ⊥) → Edits (λ ts. edit strict ts (editOf c t bytes)) w w r
-    change-refused r e m =
-        edits-refused (λ ts. edit strict ts (editOf c t bytes)) w h r (edit-is ∙ ap (judged _ _) (sym e) ∙ ap (outcome r) (stays _ (tables (storeRows w)) r m))
+    pub place-refused : (r : Edited) → r ≡ answerAt o → (r ≡ Done → ⊥) → Edits (λ ts. edit strict ts (editOf o t bytes)) w w r
+    place-refused r e m =
+        edits-refused (λ ts. edit strict ts (editOf o t bytes)) w h r (edit-is ∙ ap (judged _ _) (sym e) ∙ ap (outcome r) (stays _ (tables (storeRows w)) r m))
 
-    module _ (e : answerAt c ≡ Done) where
+    module _ (e : answerAt o ≡ Done) where
       -- what exchanging asks
-      pub change-asked : {l : Layout} {x : Extent} {end k : ℕ} → l ≡ layoutOf w → x ≡ extentOf t l → end ≡ endOf w (l .views)
-          → k ≡ lengthIn (shapeOf c) (length bytes)
+      pub place-asked : {l : Layout} {x : Extent} {end k : ℕ} → l ≡ layoutOf w → x ≡ extentOf t l → end ≡ endOf w (l .views)
+          → k ≡ lengthIn (shapeOf o) (length bytes)
           → TablePlace t w x p end × RoomFor w p end (take (k - 0) bytes)
-      change-asked {l} {x} {end} q y v u =
+      place-asked {l} {x} {end} q y v u =
           let i : ImageIn w end = image-laid h q v in
           let z : x ≡ extentOf t (layoutOf w) = y ∙ ap (extentOf t) q in
-          (record { image-in = i; extent-is = z; place-in = rw z (s .place-in) }, rw (taken-is (shapeOf c) bytes u) (room-taken c (shapeOf c) refl f e i))
+          (record { image-in = i; extent-is = z; place-in = rw z (s .place-in) }, rw (taken-is (shapeOf o) bytes u) (room-taken o (shapeOf o) refl f e i))
 
-      pub change-done : {after : List ℕ} {k : ℕ} → k ≡ lengthIn (shapeOf c) (length bytes)
-          → Exchanges t (p .row) (oneIf (p .present)) (oneRow (take (k - 0) bytes)) w after → Edits (λ ts. edit strict ts (editOf c t bytes)) w after Done
-      change-done {after} u x =
-          let y = sought-exchanges s (rw (taken-is (shapeOf c) bytes u, comes-taken (shapeOf c) t bytes d f) at x) in
-          edits-done (λ ts. edit strict ts (editOf c t bytes)) w h after (sound-after c (shapeOf c) f e y)
+      pub place-done : {after : List ℕ} {k : ℕ} → k ≡ lengthIn (shapeOf o) (length bytes)
+          → Exchanges t (p .row) (oneIf (p .present)) (oneRow (take (k - 0) bytes)) w after → Edits (λ ts. edit strict ts (editOf o t bytes)) w after Done
+      place-done {after} u x =
+          let y = sought-exchanges s (rw (taken-is (shapeOf o) bytes u, comes-taken (shapeOf o) t bytes d f) at x) in
+          edits-done (λ ts. edit strict ts (editOf o t bytes)) w h after (sound-after o (shapeOf o) f e y)
           (edit-is ∙ ap (judged _ _) e ∙ ap (outcome Done) (sym (tables-ext (storeRows after) _ (y .rows-are))))

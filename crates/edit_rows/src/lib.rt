@@ -9,56 +9,48 @@ use table_update::Place;
 ghost use mathlib.Core.Path.{_≡_};
 ghost use mathlib.Core.Bool.{true, false};
 ghost use Rattle.rows.specs.Rows.{limit};
-ghost use Rattle.edit_rules.specs.Edits.{edit, editOf, shapeOf, faulted, absentFault, comesIn};
+ghost use Rattle.edit_rules.specs.Edits.{edit as Edits·edit, editOf, shapeOf, faulted, presenceFault};
 ghost use Rattle.edit_rules.specs.Storage.{storageIn, storageAt, StorageKnown, placeFault, fullAt};
 ghost use Rattle.edit_rows.specs.Promise.{Edits, Editable, Handed, lengthIn};
 
-// A removal is of a row that is held.
-fn judge_presence(c: Operation, present: bool) -> Edited
-    ensures { λ r. ⌜ r ≡ faulted (absentFault c present) ⌝ }
+// A row is created where none is held, and changed or removed where one is.
+fn judge_presence(o: Operation, present: bool) -> Edited
+    ensures { λ r. ⌜ r ≡ faulted (presenceFault o present) ⌝ }
 {
-    match c {
-        Operation::Put => Edited::Done,
-        Operation::Remove => {
-            if present {
-                return Edited::Done;
-            }
-            Edited::Faulty(Fault::RowAbsent)
+    if edit_rules::is_create(o) {
+        if present {
+            return Edited::Faulty(Fault::RowHeld);
         }
+        return Edited::Done;
     }
+    if !present {
+        return Edited::Faulty(Fault::RowAbsent);
+    }
+    Edited::Done
 }
 
 // What stands against an edit at the place of its key, if anything does. Strict: by a principal, to whom the storage rules apply.
-pub fn judge_place(w: &[u8], strict: bool, c: Operation, p: Place, bytes: &[u8]) -> Edited
-    requires { ⌜ (strict ≡ true → StorageKnown (shapeOf c) (now w) p (now bytes)) ⌝ }
-    ensures { λ r. ⌜ r ≡ faulted (placeFault strict c (p .present) (storageAt (now (w .entry)) p) (storageIn (now (bytes .entry)))) ⌝ }
+pub fn judge_place(w: &[u8], strict: bool, o: Operation, p: Place, bytes: &[u8]) -> Edited
+    requires { ⌜ (strict ≡ true → StorageKnown (shapeOf o) (now w) p (now bytes)) ⌝ }
+    ensures { λ r. ⌜ r ≡ faulted (placeFault strict o (p .present) (storageAt (now (w .entry)) p) (storageIn (now (bytes .entry)))) ⌝ }
 {
-    let presence = judge_presence(c, p.present);
+    let presence = judge_presence(o, p.present);
     let Edited::Done = presence else {
         return presence;
     };
     if strict {
-        if !edit_storage::may_change(w, edit_rules::shape_of(c), p, bytes) {
+        if !edit_storage::may_edit(w, edit_rules::shape_of(o), p, bytes) {
             return Edited::Faulty(Fault::StorageForbids);
         }
     }
     Edited::Done
 }
 
-fn comes_in(c: Operation, present: bool) -> bool
-    ensures { λ r. ⌜ r ≡ comesIn c present ⌝ }
-{
-    match c {
-        Operation::Put => !present,
-        Operation::Remove => false,
-    }
-}
-
 // Whether an edit would bring a further row into a table that has as many as it may.
-pub fn is_full(c: Operation, t: Table, present: bool, count: usize) -> bool
-    ensures { λ r. ⌜ r ≡ fullAt c present (limit t) count ⌝ }
+pub fn is_full(o: Operation, t: Table, count: usize) -> bool
+    ensures { λ r. ⌜ r ≡ fullAt o (limit t) count ⌝ }
 {
-    if !comes_in(c, present) {
+    if !edit_rules::is_create(o) {
         return false;
     }
     rows::limit(t) <= count
@@ -73,32 +65,32 @@ fn length_in(s: Shape, n: usize) -> usize
     }
 }
 
-// The change of a row of a table by bytes, of which the first `key` are its key.
-pub fn change(
+// The edit of a row of a table by bytes, of which the first `key` are its key.
+pub fn edit(
     w: &mut [u8],
     l: Layout,
     strict: bool,
-    c: Operation,
+    o: Operation,
     t: Table,
     bytes: &[u8],
     key: usize,
 ) -> Edited
     requires store { ⌜ Editable strict t (now w) l ⌝ }
-    requires handed { ⌜ Handed (shapeOf c) t (now bytes) key ⌝ }
-    ensures { λ r. ⌜ Edits (λ rows. edit strict rows (editOf c t (now (bytes .entry)))) (now (w .entry)) (now (w .exit)) r ⌝ }
+    requires handed { ⌜ Handed (shapeOf o) t (now bytes) key ⌝ }
+    ensures { λ r. ⌜ Edits (λ rows. Edits·edit strict rows (editOf o t (now (bytes .entry)))) (now (w .entry)) (now (w .exit)) r ⌝ }
 {
     let x = table_update::extent_of(l, t);
     let p = table_update::seek(w, x, &bytes[0..key]);
-    let judged = judge_place(w, strict, c, p, bytes);
+    let judged = judge_place(w, strict, o, p, bytes);
     let Edited::Done = judged else {
         return judged;
     };
-    if is_full(c, t, p.present, x.count) {
+    if is_full(o, t, x.count) {
         return Edited::Faulty(Fault::TableFull);
     }
     let views = l.views;
     let end = image_layout::end_of(w, views);
-    let n = length_in(edit_rules::shape_of(c), bytes.len());
+    let n = length_in(edit_rules::shape_of(o), bytes.len());
     table_update::exchange(w, t, x, p, end, &bytes[0..n]);
     Edited::Done
 }

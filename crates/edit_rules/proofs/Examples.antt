@@ -1,5 +1,5 @@
 -- A principal's edits of one row judged, by computation, over tables in which its view includes some columns of the row's table alone.
--- A put wants every column; the last, the first, all but one are too few. A removal wants the status and no other. Assumes nothing.
+-- A create or a change wants every column; the last, the first, all but one are too few. A removal wants the status and no other. Assumes nothing.
 use mathlib.Core.Path.{_≡_, refl}
 use mathlib.Core.List.{List, [], _∷_, map}
 use Prim.Native.Nat.{ℕ}
@@ -55,7 +55,7 @@ unfolding judgementAt decision bearsContext mapsPrincipal contextFits candidate 
     begins
 judged t columns s = judgementAt (granting t columns) (callerOf 3 a 1) s t []
 
--- ---- a put
+-- ---- a row is handed
 
 pub every-column : judged Mapping (3 ∷ 4 ∷ 5 ∷ []) Row ≡ Allowed
 unfolding judged
@@ -90,7 +90,7 @@ pub no-view : judged Mapping [] Row ≡ Refused NoSuchView
 unfolding judged
 no-view = refl
 
--- ---- a removal
+-- ---- a key is handed
 
 pub removed : judged Mapping (5 ∷ []) Key ≡ Allowed
 unfolding judged

@@ -1,4 +1,5 @@
 pub mod Examples
+pub mod Held
 pub mod Refusals
 pub mod Written
 pub mod Storages

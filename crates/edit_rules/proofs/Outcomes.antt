@@ -13,17 +13,18 @@ use lib.Dec.{leb}
 use lib.ListN.{length, getD, length-map}
 use lib.Seq.{take-all}
 use Rattle.answers.specs.declared.Fault.{Fault}
+use Rattle.answers.specs.declared.Fault.the-variants.{StorageForbids}
 use Rattle.numbers.specs.Lists.{isNone}
 use Rattle.numbers.proofs.Bools.{split}
 use Rattle.numbers.proofs.Greatest.{Ascends, ascends-map, ascends-imp}
 use Rattle.numbers.proofs.Keeps.{every-all}
 use Rattle.edit_rules.specs.declared.Operation.{Operation}
-use Rattle.edit_rules.specs.declared.Operation.the-variants.{Put, Remove}
+use Rattle.edit_rules.specs.declared.Operation.the-variants.{Create, Change, Remove}
 use Rattle.rows.specs.declared.Shape.{Shape}
 use Rattle.rows.specs.declared.Shape.the-variants.{Row, Key}
 use Rattle.rows.specs.declared.Table.{Table}
 use Rattle.rows.specs.declared.Table.the-variants.{Context, Mapping, Access, View}
-use Rattle.rows.specs.Fields.{faults, span}
+use Rattle.rows.specs.Fields.{faults, span, orElse}
 use Rattle.rows.specs.Rows.{keyFields, rowFields, fieldsOf, limit, contextOf, mappingOf, accessOf, viewOf, indexOf}
 use Rattle.rows.specs.Tables.{Tables}
 use Rattle.rows.proofs.Inverse.{span-whole}
@@ -36,9 +37,9 @@ use Rattle.table_update.proofs.Stores.{rowKey}
 use Rattle.edit_rules.specs.declared.Edited.{Edited}
 use Rattle.edit_rules.specs.declared.Edited.the-variants.{Done, Barred, Faulty}
 use Rattle.edit_rules.specs.TableRows.{volatile, rowOf, rowIndex, storageOf, rowsOf, tablesOf, withRows}
-use Rattle.edit_rules.specs.Edits.{Outcome, outcome, editOf, shapeOf, indexOfEdit, mayPut, heldFault, rowFault, comesIn, isFull, rowsAfter}
-use Rattle.edit_rules.specs.Edits.{applied, settled, faulted, edit, isContext}
-use Rattle.edit_rules.specs.Storage.{storageIn, placeFault, placed, fullAt}
+use Rattle.edit_rules.specs.Edits.{Outcome, outcome, editOf, shapeOf, isCreate, indexOfEdit, mayPut, mayRemove, storageLets, presenceFault, heldFault}
+use Rattle.edit_rules.specs.Edits.{rowFault, isFull, rowsAfter, applied, settled, faulted, edit, isContext}
+use Rattle.edit_rules.specs.Storage.{storageIn, mayEdit, placeFault, placed, fullAt}
 use Rattle.edit_rules.proofs.Storages.{row-storage, whole-held, storageFound}
 
 -- the rows that come into a table
@@ -57,26 +58,31 @@ judged new old r = outcome r (afterwards new old r)
 
 -- ---- the storage rules: where no row is held, those of a volatile row
 
-absent-put : (new : ℕ) → mayPut none new ≡ mayPut (some volatile) new
-unfolding mayPut
-absent-put new = refl
+storage-same : (y : Shape) (held : Bool) {old old′ new new′ : ℕ} → (held ≡ true → old ≡ old′) → (y ≡ Row → new ≡ new′)
+    → storageLets y (cond held (some old) none) new ≡ mayEdit y (cond held old′ volatile) new′
+unfolding mayPut mayRemove
+storage-same Row true p q = rw (p refl, q refl)
+storage-same Row false p q = rw (q refl)
+storage-same Key true p q = rw (p refl)
+storage-same Key false p q = refl
+
+some-cond : {A : Type 0} (b : Bool) (x : A) → not (isNone (cond b (some x) none)) ≡ b
+some-cond true x = refl
+some-cond false x = refl
 
 fault-same : (strict : Bool) (o : Operation) (held : Bool) {old old′ new new′ : ℕ} → (strict ≡ true → held ≡ true → old ≡ old′)
     → (strict ≡ true → shapeOf o ≡ Row → new ≡ new′)
     → heldFault strict o (cond held (some old) none) new ≡ placeFault strict o held (cond held old′ volatile) new′
-fault-same false Put true p q = refl
-fault-same false Put false p q = refl
-fault-same false Remove true p q = refl
-fault-same false Remove false p q = refl
-fault-same true Put true p q = rw (p refl refl, q refl refl)
-fault-same true Put false {new = new} p q = rw (absent-put new, q refl refl)
-fault-same true Remove true p q = rw (p refl refl)
-fault-same true Remove false p q = refl
+fault-same false o held {old} p q = ap (λ b. orElse (presenceFault o b) none) (some-cond held old)
+fault-same true o held {old} p q =
+    ap₂ (λ b l. orElse (presenceFault o b) (cond (not l) (some StorageForbids) none)) (some-cond held old)
+    (storage-same (shapeOf o) held (p refl) (q refl))
 
 -- a removal against which nothing stands is of a row that is held
 removal-held : (strict : Bool) (o : Operation) (old new : ℕ) (held : Bool) → shapeOf o ≡ Key → placeFault strict o held old new ≡ none → held ≡ true
 removal-held strict o old new true s e = refl
-removal-held strict Put old new false s e = cc
+removal-held strict Create old new false s e = cc
+removal-held strict Change old new false s e = cc
 removal-held strict Remove old new false s e = cc
 
 -- ---- one table
@@ -85,10 +91,6 @@ map-cond : {A B : Type 0} (f : A → B) (b : Bool) (x : A) → Option·map f (co
 map-cond f true x = refl
 map-cond f false x = refl
 
-some-cond : {A : Type 0} (b : Bool) (x : A) → not (isNone (cond b (some x) none)) ≡ b
-some-cond true x = refl
-some-cond false x = refl
-
 module _ {R : Type 0} (t : Table) (of : List ℕ → R) (indexR : R → List ℕ) (e : (r : List ℕ) → indexR (of r) ≡ indexOf t r) (rs : List (List ℕ))
     (a : Whole t rs) (s : Ascends (indexOf t) rs) (key bytes : List ℕ) (k : KeyOf t key (indexOf t bytes)) where
   abbrev found : List ℕ
@@ -96,9 +98,6 @@ module _ {R : Type 0} (t : Table) (of : List ℕ → R) (indexR : R → List ℕ
 
   held-is : rowAt indexR (indexOf t bytes) (map of rs) ≡ cond (isHeld key rs) (some (of found)) none
   held-is = row-at t of indexR e k rs a s
-
-  present-is : not (isNone (rowAt indexR (indexOf t bytes) (map of rs))) ≡ isHeld key rs
-  present-is = ap (λ u. not (isNone u)) held-is ∙ some-cond (isHeld key rs) (of found)
 
   fault-is : (storage : R → ℕ) (strict : Bool) (o : Operation) → (strict ≡ true → (r : List ℕ) → faults (rowFields t) r ≡ none → storage (of r) ≡ storageIn r)
       → faults (fieldsOf (shapeOf o) t) bytes ≡ none
@@ -179,7 +178,7 @@ module _ (rs : Table → List (List ℕ)) (a : (t : Table) → Whole t (rs t)) (
   faultAt = placeFault strict o present (storageFound key (rs t)) (storageIn bytes)
 
   abbrev pub fullIn : Bool
-  fullIn = fullAt o present (limit t) (length (rs t))
+  fullIn = fullAt o (limit t) (length (rs t))
 
   abbrev pub after : Tables
   after = changed t (rowsBefore key (rs t)) (oneIf present) (comes (shapeOf o) bytes) rs
@@ -192,11 +191,8 @@ module _ (rs : Table → List (List ℕ)) (a : (t : Table) → Whole t (rs t)) (
       (λ y. row-storage t (n y)) f
 
   full-here : isFull (tables rs) (editOf o t bytes) ≡ fullIn
-  unfolding isFull indexOfEdit
-  full-here =
-      ap (λ us. comesIn o (not (isNone (rowAt (rowIndex t) (indexOf t bytes) us))) && leb (limit t) (length us)) (rows-in rs t)
-      ∙ ap₂ (λ b m. comesIn o b && leb (limit t) m)
-      (present-is t (rowOf t) (rowIndex t) (row-index t) (rs t) (a t) (s t) key bytes (key-of (shapeOf o) t bytes d f)) (length-map (rs t) (rowOf t))
+  unfolding isFull
+  full-here = ap (λ n. isCreate o && leb (limit t) n) (ap length (rows-in rs t) ∙ length-map (rs t) (rowOf t))
 
   applied-here : faultAt ≡ none → applied (tables rs) (editOf o t bytes) ≡ after
   unfolding applied indexOfEdit

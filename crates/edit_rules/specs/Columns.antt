@@ -19,7 +19,7 @@ pub record FirstMet (ts : Tables) (c : Caller) (t : Table) (index : List ℕ) (c
   pub below : (other : ℕ) → lists t other ≡ true → other < column → columnJudged ts c t index other ≡ Allowed
 
 pub record EveryColumnCounts : Type 0 where
-  -- "A principal's put is .. judged at every column of the row's table listed in document 01"
+  -- "A principal's put", by ticket 6 a create or a change, "is .. judged at every column of the row's table listed in document 01"
   pub put-allowed : (ts : Tables) (c : Caller) (t : Table) (index : List ℕ) → judgementAt ts c Row t index ≡ Allowed
       → (column : ℕ) → lists t column ≡ true → columnJudged ts c t index column ≡ Allowed
   pub put-refused : (ts : Tables) (c : Caller) (t : Table) (index : List ℕ) {cause : Cause} → judgementAt ts c Row t index ≡ Refused cause

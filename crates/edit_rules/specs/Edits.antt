@@ -1,5 +1,5 @@
--- Edits of the rows held (document 01, "Edits" and "Where each number is met"): what they are, the storage rules, how they are judged by the row
--- held, room, what they leave; who makes them, and how the tables judge a principal's. Assumes nothing.
+-- Edits of the rows held (document 01, "Edits" and "Where each number is met"; document 02, ticket 6): what they are, the storage rules, how they
+-- are judged by the row held, room, what they leave; who makes them, and how the tables judge a principal's. Assumes nothing.
 use mathlib.Core.Bool.{Bool, true, false, cond, not, _&&_, _||_}
 use mathlib.Core.List.{List, [], _∷_}
 use mathlib.Core.Option.{Option, none, some, Option·map}
@@ -9,7 +9,7 @@ use lib.ListN.{length}
 use Rattle.answers.specs.declared.Decision.{Decision}
 use Rattle.answers.specs.declared.Decision.the-variants.{Allowed, Refused}
 use Rattle.answers.specs.declared.Fault.{Fault}
-use Rattle.answers.specs.declared.Fault.the-variants.{TableFull, RowAbsent, StorageForbids}
+use Rattle.answers.specs.declared.Fault.the-variants.{TableFull, RowAbsent, StorageForbids, RowHeld}
 use Rattle.answers.specs.Numbers.{causeNumber, faultNumber}
 use Rattle.rows.specs.declared.Shape.{Shape}
 use Rattle.rows.specs.declared.Shape.the-variants.{Row, Key}
@@ -22,7 +22,7 @@ use Rattle.numbers.specs.Lists.{isNone}
 use Rattle.decision_steps.specs.Request.{asked, longestName, noAuthNoPriv, authPriv, write}
 use Rattle.decision_steps.specs.Decision.{decision}
 use Rattle.edit_rules.specs.declared.Operation.{Operation}
-use Rattle.edit_rules.specs.declared.Operation.the-variants.{Put, Remove}
+use Rattle.edit_rules.specs.declared.Operation.the-variants.{Create, Change, Remove}
 use Rattle.edit_rules.specs.declared.Edited.{Edited}
 use Rattle.edit_rules.specs.declared.Edited.the-variants.{Done, Barred, Faulty}
 use Rattle.edit_rules.specs.TableRows.{permanent, readOnly, RowOf, rowOf, rowIndex, storageOf, rowsOf, withRows}
@@ -39,10 +39,16 @@ pub record Edit : Type 0 where
 abbrev pub editOf : Operation → Table → List ℕ → Edit
 editOf o t bytes = record { operation = o; table = t; bytes = bytes }
 
--- what is handed: a row is put, the row of a key is removed
+-- what is handed: the row as it shall be, or the key of the row to remove
 abbrev pub shapeOf : Operation → Shape
-shapeOf Put = Row
+shapeOf Create = Row
+shapeOf Change = Row
 shapeOf Remove = Key
+
+abbrev pub isCreate : Operation → Bool
+isCreate Create = true
+isCreate Change = false
+isCreate Remove = false
 
 -- whole bytes, each field in range
 unfoldable pub legalEdit : Edit → Bool
@@ -55,15 +61,13 @@ indexOfEdit e = indexOf (e .table) (e .bytes)
 abbrev pub rowHeld : Tables → (e : Edit) → Option (RowOf (e .table))
 rowHeld ts e = rowAt (rowIndex (e .table)) (indexOfEdit e) (rowsOf (e .table) ts)
 
-abbrev pub isPresent : Tables → Edit → Bool
-isPresent ts e = not (isNone (rowHeld ts e))
-
 -- ---- storage
 
 abbrev pub isFixed : ℕ → Bool
 isFixed storage = eqb storage permanent || eqb storage readOnly
 
--- a principal's put may not give storage permanent or readOnly to a row that lacks it, nor alter permanent, nor touch a row of readOnly
+-- A row is put where it is created or changed. A principal may not give storage permanent or readOnly to a row that lacks it, nor alter permanent, nor
+-- touch a row of readOnly.
 unfoldable pub mayPut : Option ℕ → ℕ → Bool
 mayPut none new = not (isFixed new)
 mayPut (some old) new = not (eqb old readOnly) && cond (eqb old permanent) (eqb new permanent) (not (isFixed new))
@@ -78,31 +82,25 @@ storageLets Row old new = mayPut old new
 storageLets Key none new = true
 storageLets Key (some old) new = mayRemove old
 
--- ---- an edit judged by the row held, if one is: 10, then 11
+-- ---- an edit judged by the row held, if one is: 18 or 10, then 11
 
--- a removal is of a row that is held
-abbrev pub absentFault : Operation → Bool → Option Fault
-absentFault Put held = none
-absentFault Remove true = none
-absentFault Remove false = some RowAbsent
+-- "Create adds a row whose key isn't held, change replaces one that is"; a removal is of a row that is held
+abbrev pub presenceFault : Operation → Bool → Option Fault
+presenceFault o held = cond (isCreate o) (cond held (some RowHeld) none) (cond held none (some RowAbsent))
 
 -- strict: by a principal, to whom the storage rules apply
 abbrev pub heldFault : Bool → Operation → Option ℕ → ℕ → Option Fault
 heldFault strict o old new =
-    orElse (absentFault o (not (isNone old))) (cond (strict && not (storageLets (shapeOf o) old new)) (some StorageForbids) none)
+    orElse (presenceFault o (not (isNone old))) (cond (strict && not (storageLets (shapeOf o) old new)) (some StorageForbids) none)
 
 unfoldable pub rowFault : Bool → Tables → Edit → Option Fault
 rowFault strict ts e =
     heldFault strict (e .operation) (Option·map (storageOf (e .table)) (rowHeld ts e)) (storageOf (e .table) (rowOf (e .table) (e .bytes)))
 
--- ---- room: 9 where a row that is not held would come into a table with as many rows as it may have; rows out of service take room too
-
-abbrev pub comesIn : Operation → Bool → Bool
-comesIn Put held = not held
-comesIn Remove held = false
+-- ---- room: 9 where a row would be created in a table with as many rows as it may have; rows out of service take room too
 
 unfoldable pub isFull : Tables → Edit → Bool
-isFull ts e = comesIn (e .operation) (isPresent ts e) && leb (limit (e .table)) (length (rowsOf (e .table) ts))
+isFull ts e = isCreate (e .operation) && leb (limit (e .table)) (length (rowsOf (e .table) ts))
 
 -- ---- an edit applied: the row put or gone, the other tables as they were
 
@@ -165,7 +163,7 @@ isContext View = false
 
 -- ---- what the tables let a principal edit: a write request in the empty context at each column that is written; the first refusal is the answer
 
--- a put writes every column that document 01 lists, also where the row held has the value already; a removal writes the status
+-- a create and a change write every column that document 01 lists, also where the row held has the value already; a removal writes the status
 abbrev pub columnsWritten : Shape → Table → List ℕ
 columnsWritten Row t = columns t
 columnsWritten Key t = statusColumn t ∷ []

@@ -16,7 +16,7 @@ use Rattle.edit_rules.specs.declared.Operation.{Operation}
 use Rattle.edit_rules.specs.declared.Edited.{Edited}
 use Rattle.edit_rules.specs.declared.Edited.the-variants.{Done, Faulty}
 use Rattle.edit_rules.specs.TableRows.{volatile}
-use Rattle.edit_rules.specs.Edits.{shapeOf, mayPut, mayRemove, absentFault, comesIn}
+use Rattle.edit_rules.specs.Edits.{shapeOf, isCreate, mayPut, mayRemove, presenceFault}
 
 -- the last octet but one of a mapping, access or view row
 abbrev pub storageIn : List ℕ → ℕ
@@ -35,19 +35,19 @@ pub record StorageKnown (s : Shape) (w : List ℕ) (p : Place) (bytes : List ℕ
 abbrev pub storageAt : List ℕ → Place → ℕ
 storageAt w p = cond (p .present) (storageIn (take (p .end - p .from) (drop (p .from) w))) volatile
 
--- whether a row of storage `old` may be changed, by a row of storage `new` where one is put
-abbrev pub mayChange : Shape → ℕ → ℕ → Bool
-mayChange Row old new = mayPut (some old) new
-mayChange Key old new = mayRemove old
+-- whether a row of storage `old` may be edited, by a row of storage `new` where one is put
+abbrev pub mayEdit : Shape → ℕ → ℕ → Bool
+mayEdit Row old new = mayPut (some old) new
+mayEdit Key old new = mayRemove old
 
--- what stands against an edit at the place of its key: 10, then 11
+-- what stands against an edit at the place of its key: 18 or 10, then 11
 abbrev pub placeFault : Bool → Operation → Bool → ℕ → ℕ → Option Fault
-placeFault strict o present old new = orElse (absentFault o present) (cond (strict && not (mayChange (shapeOf o) old new)) (some StorageForbids) none)
+placeFault strict o present old new = orElse (presenceFault o present) (cond (strict && not (mayEdit (shapeOf o) old new)) (some StorageForbids) none)
 
 -- then 9, in a table of so many rows
 abbrev pub placed : Option Fault → Bool → Edited
 placed (some f) full = Faulty f
 placed none full = cond full (Faulty TableFull) Done
 
-abbrev pub fullAt : Operation → Bool → ℕ → ℕ → Bool
-fullAt o present limit count = comesIn o present && leb limit count
+abbrev pub fullAt : Operation → ℕ → ℕ → Bool
+fullAt o limit count = isCreate o && leb limit count

@@ -8,21 +8,33 @@ use decision::NO_AUTH_NO_PRIV;
 use rows::MODEL_MAX;
 use rows::Shape;
 ghost use mathlib.Core.Path.{_≡_};
-ghost use Rattle.edit_rules.specs.Edits.{shapeOf, legalCaller, callerOf};
+ghost use Rattle.edit_rules.specs.Edits.{shapeOf, isCreate, legalCaller, callerOf};
 
-// What an edit does with a row.
+// What an edit does with a row: create one that is not held, change or remove one that is.
 pub enum Operation {
-    Put,
+    Create,
+    Change,
     Remove,
 }
 
-// What an edit is handed: the row to put, or the key of the row to remove.
+// What an edit is handed: the row as it shall be, or the key of the row to remove.
 pub fn shape_of(o: Operation) -> Shape
     ensures { λ r. ⌜ r ≡ shapeOf o ⌝ }
 {
     match o {
-        Operation::Put => Shape::Row,
+        Operation::Create => Shape::Row,
+        Operation::Change => Shape::Row,
         Operation::Remove => Shape::Key,
+    }
+}
+
+pub fn is_create(o: Operation) -> bool
+    ensures { λ r. ⌜ r ≡ isCreate o ⌝ }
+{
+    match o {
+        Operation::Create => true,
+        Operation::Change => false,
+        Operation::Remove => false,
     }
 }
 

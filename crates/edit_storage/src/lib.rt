@@ -6,7 +6,7 @@ ghost use mathlib.Core.Option.{some};
 ghost use Prim.Native.Nat.{_≤_};
 ghost use lib.ListN.{length};
 ghost use Rattle.edit_rules.specs.Edits.{isFixed, mayPut};
-ghost use Rattle.edit_rules.specs.Storage.{storageIn, StorageIn, storageAt, StorageKnown, mayChange};
+ghost use Rattle.edit_rules.specs.Storage.{storageIn, StorageIn, storageAt, StorageKnown, mayEdit};
 
 // The values of a row's storage that are tested.
 const VOLATILE: u8 = 2;
@@ -57,10 +57,10 @@ fn may_replace(old: u8, new: u8) -> bool
     !is_fixed(new)
 }
 
-// The storage of the row held, and of the row put, lets a principal make the change.
-pub fn may_change(w: &[u8], s: Shape, p: Place, bytes: &[u8]) -> bool
+// The storage of the row held, and of the row put, lets a principal make the edit.
+pub fn may_edit(w: &[u8], s: Shape, p: Place, bytes: &[u8]) -> bool
     requires { ⌜ StorageKnown s (now w) p (now bytes) ⌝ }
-    ensures { λ r. ⌜ r ≡ mayChange s (storageAt (now (w .entry)) p) (storageIn (now (bytes .entry))) ⌝ }
+    ensures { λ r. ⌜ r ≡ mayEdit s (storageAt (now (w .entry)) p) (storageIn (now (bytes .entry))) ⌝ }
 {
     let old = held_storage(w, p);
     match s {

@@ -1,4 +1,5 @@
--- The owner's and the principals' edits in full (document 01, "Edits" and "Where each number is met"), and what the calls promise. Assumes nothing.
+-- The owner's and the principals' edits in full (document 01, "Edits" and "Where each number is met"; document 02, tickets 3 and 6), and what the
+-- calls promise. Assumes nothing.
 use mathlib.Core.Bool.{true, false, cond, _&&_}
 use mathlib.Core.List.{List}
 use Prim.Native.Nat.{ℕ}
@@ -22,7 +23,7 @@ use Rattle.edits.specs.declared.Prepared.the-variants.{Ready, Unready}
 
 -- ---- judged against the rows held, Done where nothing stands against the edit but, it may be, room
 
--- the owner's: 7, then 10; unchecked by the tables
+-- the owner's: 7, then 10 or 18; unchecked by the tables
 unfoldable pub ownerJudged : Tables → Edit → Edited
 ownerJudged t e = cond (legalEdit e) (faulted (rowFault false t e)) (Faulty OutOfRange)
 
@@ -30,7 +31,7 @@ abbrev pub allowed : Decision → Edited → Edited
 allowed Allowed r = r
 allowed (Refused c) r = Barred c
 
--- a principal's: 7 for the caller's fields, then the row's; 12; 1 to 5; 10, 11
+-- a principal's: 7 for the caller's fields, then the row's; 12; 1 to 5; 10 or 18, then 11
 unfoldable pub principalJudged : Tables → Caller → Edit → Edited
 principalJudged t c e =
     cond (legalCaller c && legalEdit e)
@@ -56,5 +57,5 @@ PrincipalEdits c e found after r = Edits (λ t. principalEdit t c e) found after
 
 -- what both begin with: 6 for the store, then 7 for what is handed
 abbrev pub prepared : List ℕ → Operation → Table → List ℕ → Prepared
-prepared w c t bytes =
-    cond (isSound w) (cond (legalEdit (editOf c t bytes)) (Ready (layoutOf w) (span (keyFields t) bytes)) (Unready OutOfRange)) (Unready NotSound)
+prepared w o t bytes =
+    cond (isSound w) (cond (legalEdit (editOf o t bytes)) (Ready (layoutOf w) (span (keyFields t) bytes)) (Unready OutOfRange)) (Unready NotSound)

@@ -26,10 +26,10 @@ pub fn edited_number(e: Edited) -> u32
     }
 }
 
-fn judge_change(c: Operation, t: Table, bytes: &[u8]) -> Step
-    ensures { λ r. ⌜ r ≡ reached (faults (fieldsOf (shapeOf c) t) (now (bytes .entry))) (span (keyFields t) (now (bytes .entry))) ⌝ }
+fn judge_handed(o: Operation, t: Table, bytes: &[u8]) -> Step
+    ensures { λ r. ⌜ r ≡ reached (faults (fieldsOf (shapeOf o) t) (now (bytes .entry))) (span (keyFields t) (now (bytes .entry))) ⌝ }
 {
-    match edit_rules::shape_of(c) {
+    match edit_rules::shape_of(o) {
         Shape::Row => rows::judge(t, bytes),
         Shape::Key => rows::judge_key(t, bytes),
     }
@@ -41,28 +41,28 @@ enum Prepared {
     Unready(Fault),
 }
 
-fn prepare(store: &[u8], c: Operation, t: Table, bytes: &[u8]) -> Prepared
-    ensures { λ r. ⌜ r ≡ prepared (now (store .entry)) c t (now (bytes .entry)) ⌝ }
+fn prepare(store: &[u8], o: Operation, t: Table, bytes: &[u8]) -> Prepared
+    ensures { λ r. ⌜ r ≡ prepared (now (store .entry)) o t (now (bytes .entry)) ⌝ }
 {
     let surveyed = image::survey_store(store);
     let Surveyed::Laid(l) = surveyed else {
         return Prepared::Unready(Fault::NotSound);
     };
-    let step = judge_change(c, t, bytes);
+    let step = judge_handed(o, t, bytes);
     let Step::At(k) = step else {
         return Prepared::Unready(Fault::OutOfRange);
     };
     Prepared::Ready(l, k)
 }
 
-// The owner puts a row into a table, in place of the row with its key where one is held, or removes the row with a key.
-pub fn owner_edit(store: &mut [u8], c: Operation, t: Table, bytes: &[u8]) -> Edited
-    ensures { λ r. ⌜ OwnerEdits (editOf c t (now (bytes .entry))) (now (store .entry)) (now (store .exit)) r ⌝ }
+// The owner creates a row, changes the row with its key, or removes the row with a key.
+pub fn owner_edit(store: &mut [u8], o: Operation, t: Table, bytes: &[u8]) -> Edited
+    ensures { λ r. ⌜ OwnerEdits (editOf o t (now (bytes .entry))) (now (store .entry)) (now (store .exit)) r ⌝ }
 {
-    let prepared = prepare(store, c, t, bytes);
+    let prepared = prepare(store, o, t, bytes);
     match prepared {
         Prepared::Unready(f) => Edited::Faulty(f),
-        Prepared::Ready(l, k) => edit_rows::change(store, l, false, c, t, bytes, k),
+        Prepared::Ready(l, k) => edit_rows::edit(store, l, false, o, t, bytes, k),
     }
 }
 
@@ -72,14 +72,14 @@ pub fn principal_edit(
     security_model: u32,
     security_name: &[u8],
     security_level: u32,
-    c: Operation,
+    o: Operation,
     t: Table,
     bytes: &[u8],
 ) -> Edited
-    ensures { λ r. ⌜ PrincipalEdits (callerOf «security_model» (now («security_name» .entry)) «security_level») (editOf c t (now (bytes .entry)))
+    ensures { λ r. ⌜ PrincipalEdits (callerOf «security_model» (now («security_name» .entry)) «security_level») (editOf o t (now (bytes .entry)))
         (now (store .entry)) (now (store .exit)) r ⌝ }
 {
-    let prepared = prepare(store, c, t, bytes);
+    let prepared = prepare(store, o, t, bytes);
     match prepared {
         Prepared::Unready(f) => Edited::Faulty(f),
         Prepared::Ready(l, k) => {
@@ -93,14 +93,14 @@ pub fn principal_edit(
                 security_model,
                 security_name,
                 security_level,
-                edit_rules::shape_of(c),
+                edit_rules::shape_of(o),
                 t,
                 key,
             );
             if let Admission::Denied(r) = admission {
                 return r;
             }
-            edit_rows::change(store, l, true, c, t, bytes, k)
+            edit_rows::edit(store, l, true, o, t, bytes, k)
         }
     }
 }

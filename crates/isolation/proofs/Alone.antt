@@ -11,8 +11,8 @@ use Rattle.rows.specs.Tables.{Tables}
 use Rattle.image.specs.Store.{held}
 use Rattle.edits.specs.Does.{Call, Reply}
 use Rattle.edits.proofs.Steps.{step, does-step}
-use Rattle.isolation.specs.Isolation.{Told, calls, Run, done, more, Along, Circle, shared, picked, staysInside, insidersEdit, handsSuch, mapsToGroup}
-use Rattle.isolation.specs.Isolation.{givesChosen, findsRoom, othersRefused, WalksConfined}
+use Rattle.isolation.specs.Isolation.{Told, calls, Run, done, more, Along, Circle, shared, picked, staysInside, insidersEdit, keepsToGroup}
+use Rattle.isolation.specs.Isolation.{keepsToViews, findsRoom, othersRefused, WalksConfined}
 use Rattle.isolation.proofs.Circles.{circleRows, Orderly}
 use Rattle.isolation.proofs.Steps.{step-shared, step-other, step-orderly}
 use Rattle.isolation.proofs.Walks.{held-legal}
@@ -45,8 +45,8 @@ module _ (w : Circle) where
 
   pub record Kept {s s′ : List ℕ} {ts : List Told} (run : Run s ts s′) : Type 0 where
     pub members-inside : Each (λ c r. staysInside w c) run
-    pub members-grouped : Each (λ c r. insidersEdit w (handsSuch (mapsToGroup w)) c) run
-    pub views-chosen : Each (λ c r. insidersEdit w (handsSuch (givesChosen w)) c) run
+    pub members-grouped : Each (λ c r. insidersEdit w (keepsToGroup w) c) run
+    pub views-chosen : Each (λ c r. insidersEdit w (keepsToViews w) c) run
     pub never-full : Each (λ c r. insidersEdit w (findsRoom r) c) run
     pub others-refused : Each (λ c r. othersRefused w c r) run
     pub walks-confined : WalksConfined w run

@@ -11,10 +11,8 @@ use native.Mathlib.Omega.{arith}
 use lib.Dec.{eqb, leb}
 use lib.ListN.{length}
 use borrow.Author.Tests.{leb-false, lt-leb}
-use Rattle.numbers.specs.Lists.{keep, isNone}
+use Rattle.numbers.specs.Lists.{keep}
 use Rattle.numbers.proofs.Bools.{split, clash, and-left, and-right, and-both, and-false-or, and-false-left, and-false-right, or-right}
-use Rattle.edit_rules.specs.declared.Operation.{Operation}
-use Rattle.edit_rules.specs.declared.Operation.the-variants.{Put, Remove}
 use Rattle.rows.specs.declared.Table.{Table}
 use Rattle.rows.specs.declared.Table.the-variants.{Context, Mapping, Access, View}
 use Rattle.rows.specs.Rows.{limit}
@@ -23,10 +21,10 @@ use Rattle.table_update.specs.Tables.{rowAt}
 use Rattle.edit_rules.specs.declared.Edited.{Edited}
 use Rattle.edit_rules.specs.declared.Edited.the-variants.{Done, Barred, Faulty}
 use Rattle.edit_rules.specs.TableRows.{RowOf, rowOf, rowIndex, storageOf, rowsOf, withRows}
-use Rattle.edit_rules.specs.Edits.{Edit, Outcome, outcome, shapeOf, indexOfEdit, rowHeld, heldFault, rowFault, comesIn, isFull, rowsAfter, applied, settled}
+use Rattle.edit_rules.specs.Edits.{Edit, Outcome, outcome, shapeOf, isCreate, indexOfEdit, rowHeld, heldFault, rowFault, isFull, rowsAfter, applied, settled}
 use Rattle.edit_rules.proofs.Outcomes.{row-index}
 use Rattle.edits.specs.Calls.{editedNumber}
-use Rattle.isolation.specs.Isolation.{Circle, rowIn, ofCircle, implies, isRow, handsRow, handsSuch, mapsToGroup, givesChosen}
+use Rattle.isolation.specs.Isolation.{Circle, rowIn, ofCircle, implies, handsRow, mapsToGroup, givesChosen, keepsToGroup, keepsToViews}
 use Rattle.isolation.proofs.Tables.{length-keep, rowAt-keep, keep-after-in, keep-after-out, ascends-after, every-after}
 use Rattle.isolation.proofs.Circles.{implied, circleRows, rows-circle, with-circle, key-same, rowFits, Orderly, orderly-at, orderly-with}
 
@@ -43,17 +41,12 @@ settled-refused Done ts e h = split (isFull ts e) (λ f. rw f) (λ f. clash {b =
 settled-refused (Barred c) ts e h = refl
 settled-refused (Faulty f) ts e h = refl
 
--- where a row comes in, one is handed
-comes-hands : (o : Operation) (b : Bool) → comesIn o b ≡ true → isRow (shapeOf o) ≡ true
-comes-hands Put b e = refl
-comes-hands Remove b e = clash e refl
-
 -- an edit that is not answered 'table full' finds room
-found-room : (ts : Tables) (e : Edit) → implies (handsRow e) (not (eqb (editedNumber (settled Done ts e .answer)) 9)) ≡ true → isFull ts e ≡ false
+found-room : (ts : Tables) (e : Edit) → implies (isCreate (e .operation)) (not (eqb (editedNumber (settled Done ts e .answer)) 9)) ≡ true → isFull ts e ≡ false
 unfolding isFull
 found-room ts e h =
     split (isFull ts e)
-    (λ f. clash (implied _ _ (rw f at h) (comes-hands (e .operation) _ (and-left _ _ f))) refl) (λ f. f)
+    (λ f. clash (implied (isCreate (e .operation)) _ (rw f at h) (and-left (isCreate (e .operation)) _ f)) refl) (λ f. f)
 
 -- a table's own rows in place of those held
 own-rows : (t : Table) (ts : Tables) → withRows t ts (rowsOf t ts) ≡ ts
@@ -105,9 +98,7 @@ module _ (w : Circle) where
       full-circle : isFull ts e ≡ false → isFull (circleRows w ts) e ≡ false
       unfolding isFull
       full-circle f =
-          and-false-or (comesIn (e .operation) (not (isNone (rowHeld ts e)))) _ f
-          (λ a. and-false-left _ (ap (λ o. comesIn (e .operation) (not (isNone o))) held-circle ∙ a))
-          (λ a. and-false-right (comesIn (e .operation) (not (isNone (rowHeld (circleRows w ts) e)))) (room-circle a))
+          and-false-or (isCreate (e .operation)) _ f (λ a. and-false-left _ a) (λ a. and-false-right (isCreate (e .operation)) (room-circle a))
 
       module _ (i : Orderly w ts) where
         applied-circle : applied (circleRows w ts) e ≡ circleRows w (applied ts e)
@@ -121,7 +112,7 @@ module _ (w : Circle) where
             (orderly-at w t i .0)))
             ∙ with-circle w t ts (after (rowsOf t ts))
 
-        pub settled-in : (v : Edited) → implies (handsRow e) (not (eqb (editedNumber (settled v ts e .answer)) 9)) ≡ true
+        pub settled-in : (v : Edited) → implies (isCreate (e .operation)) (not (eqb (editedNumber (settled v ts e .answer)) 9)) ≡ true
             → settled v (circleRows w ts) e ≡ circleOf (settled v ts e)
         settled-in Done q = let f = found-room ts e q in rw (f, full-circle f, applied-circle)
         settled-in (Barred c) q = refl
@@ -145,7 +136,7 @@ module _ (w : Circle) where
     -- ---- an edit that fits
 
     abbrev pub fits : Bool
-    fits = implies of (handsSuch (mapsToGroup w) e && handsSuch (givesChosen w) e)
+    fits = implies of (keepsToGroup w e && keepsToViews w e)
 
     -- the row that it hands
     row-fits : fits ≡ true → handsRow e ≡ true → rowFits w (e .table) (rowOf (e .table) (e .bytes)) ≡ true
@@ -155,7 +146,7 @@ module _ (w : Circle) where
         (λ o.
         let g = implied of _ f o in
         let m : mapsToGroup w (e .table) r ≡ true = implied (handsRow e) _ (and-left _ _ g) h in
-        let c : givesChosen w (e .table) r ≡ true = implied (handsRow e) _ (and-right (handsSuch (mapsToGroup w) e) _ g) h in
+        let c : givesChosen w (e .table) r ≡ true = implied (handsRow e) _ (and-right (keepsToGroup w e) _ g) h in
         or-right (not (rowIn w (e .table) r)) (and-both m c))
         (λ o. rw (at-index o r (sym own-index)))
 

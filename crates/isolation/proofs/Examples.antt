@@ -25,13 +25,14 @@ use Rattle.image.specs.Store.{room, soundRows, isSound, held}
 use Rattle.decision_steps.specs.Request.{asked, legalRequest}
 use Rattle.decision_steps.specs.Decision.{bearsContext, mapsPrincipal, contextFits, candidate, chosenAccess, viewFor, inView, maskBit, agrees, matches}
 use Rattle.decision_steps.specs.Decision.{chosenView, decision, authority}
-use Rattle.edit_rules.specs.declared.Operation.the-variants.{Put, Remove}
+use Rattle.edit_rules.specs.declared.Operation.{Operation}
+use Rattle.edit_rules.specs.declared.Operation.the-variants.{Create, Change, Remove}
 use Rattle.edit_rules.specs.Edits.{Edit, editOf, Caller, indexOfEdit, legalEdit, mayPut, mayRemove, rowFault, isFull, applied, legalCaller, judgementAt}
 use Rattle.walk_rules.specs.Walk.{walkOn, legalWalk, nextInstance, follows, mayRead, least}
 use Rattle.edits.specs.Calls.{ownerJudged, ownerEdit, principalJudged, principalEdit}
 use Rattle.edits.specs.Does.{Call, ask, owner, by, walk, Reply, replyNumber, HandsOctets}
-use Rattle.isolation.specs.Isolation.{Told, calls, Run, done, more, Along, Fresh, Circle, picked, staysInside, insidersEdit, handsSuch, mapsToGroup}
-use Rattle.isolation.specs.Isolation.{givesChosen, findsRoom, othersRefused, Confined, WalksConfined, Conditions}
+use Rattle.isolation.specs.Isolation.{Told, calls, Run, done, more, Along, Fresh, Circle, picked, staysInside, insidersEdit, keepsToGroup}
+use Rattle.isolation.specs.Isolation.{keepsToViews, findsRoom, othersRefused, Confined, WalksConfined, Conditions}
 use Rattle.edits.proofs.Steps.{step, does-step}
 use Rattle.isolation.specs.Runs.{AllHandOctets, RunOf}
 use Rattle.isolation.proofs.Runs.{every-list-runs}
@@ -66,29 +67,38 @@ internet rest = 1 ∷ 3 ∷ 6 ∷ 1 ∷ rest
 abbrev pub circle : Circle
 circle = record { group = leads; member = λ model name. eqb model 3 && same name ann; chosen = λ name. same name all }
 
-abbrev pub putContext : List ℕ → Edit
-putContext name = editOf Put Context (rowBytes (rowFields Context) (name ∷ []))
+abbrev pub createContext : List ℕ → Edit
+createContext name = editOf Create Context (rowBytes (rowFields Context) (name ∷ []))
 
-abbrev pub putMapping : List ℕ → List ℕ → Edit
-putMapping name group = editOf Put Mapping (rowBytes (rowFields Mapping) ((3 ∷ []) ∷ name ∷ group ∷ (3 ∷ []) ∷ (1 ∷ []) ∷ []))
+abbrev mapping : Operation → List ℕ → List ℕ → Edit
+mapping o name group = editOf o Mapping (rowBytes (rowFields Mapping) ((3 ∷ []) ∷ name ∷ group ∷ (3 ∷ []) ∷ (1 ∷ []) ∷ []))
+
+abbrev pub createMapping : List ℕ → List ℕ → Edit
+createMapping name group = mapping Create name group
+
+abbrev changeMapping : List ℕ → List ℕ → Edit
+changeMapping name group = mapping Change name group
 
 abbrev removeMapping : List ℕ → Edit
 removeMapping name = editOf Remove Mapping (rowBytes (keyFields Mapping) ((3 ∷ []) ∷ name ∷ []))
 
 -- of any context, any model, level 1 and above
-abbrev pub putAccess : List ℕ → List ℕ → List ℕ → List ℕ → Edit
-putAccess group read write notify =
-    editOf Put Access
+abbrev access : Operation → List ℕ → List ℕ → List ℕ → List ℕ → Edit
+access o group read write notify =
+    editOf o Access
     (rowBytes (rowFields Access)
     (group ∷ [] ∷ (0 ∷ []) ∷ (1 ∷ []) ∷ (2 ∷ []) ∷ read ∷ write ∷ notify ∷ (3 ∷ []) ∷ (1 ∷ []) ∷ []))
 
--- type 1 is included, 2 excluded
-abbrev pub putFamily : List ℕ → List ℕ → List ℕ → ℕ → Edit
-putFamily name subtree mask type =
-    editOf Put View (rowBytes (rowFields View) (name ∷ subtree ∷ mask ∷ (type ∷ []) ∷ (3 ∷ []) ∷ (1 ∷ []) ∷ []))
+abbrev pub createAccess : List ℕ → List ℕ → List ℕ → List ℕ → Edit
+createAccess group read write notify = access Create group read write notify
 
-abbrev pub putView : List ℕ → List ℕ → ℕ → Edit
-putView name subtree type = putFamily name subtree [] type
+-- type 1 is included, 2 excluded
+abbrev pub createFamily : List ℕ → List ℕ → List ℕ → ℕ → Edit
+createFamily name subtree mask type =
+    editOf Create View (rowBytes (rowFields View) (name ∷ subtree ∷ mask ∷ (type ∷ []) ∷ (3 ∷ []) ∷ (1 ∷ []) ∷ []))
+
+abbrev pub createView : List ℕ → List ℕ → ℕ → Edit
+createView name subtree type = createFamily name subtree [] type
 
 abbrev pub principal : List ℕ → Caller
 principal name = record { securityModel = 3; securityName = name; securityLevel = 2 }
@@ -118,8 +128,8 @@ noWalk (walk c identifier) = false
 abbrev pub meets : List Told → List Bool
 meets ts =
     every (λ (t : Told). staysInside circle (t .0)) ts
-    ∷ every (λ (t : Told). insidersEdit circle (handsSuch (mapsToGroup circle)) (t .0)) ts
-    ∷ every (λ (t : Told). insidersEdit circle (handsSuch (givesChosen circle)) (t .0)) ts
+    ∷ every (λ (t : Told). insidersEdit circle (keepsToGroup circle) (t .0)) ts
+    ∷ every (λ (t : Told). insidersEdit circle (keepsToViews circle) (t .0)) ts
     ∷ every (λ (t : Told). insidersEdit circle (findsRoom (t .1)) (t .0)) ts
     ∷ every (λ (t : Told). othersRefused circle (t .0) (t .1)) ts
     ∷ every (λ (t : Told). noWalk (t .0)) ts
@@ -173,10 +183,10 @@ confined-none t (c ∷ cs) h = (confined-one t c (and-left _ _ h), confined-none
 -- the owner sets up the circle
 abbrev start : List Call
 start =
-    owner (putContext [])
-    ∷ owner (putMapping ann leads)
-    ∷ owner (putAccess leads all all [])
-    ∷ owner (putView all (internet []) 1)
+    owner (createContext [])
+    ∷ owner (createMapping ann leads)
+    ∷ owner (createAccess leads all all [])
+    ∷ owner (createView all (internet []) 1)
     ∷ []
 
 -- ---- two lists that differ and meet every condition
@@ -184,38 +194,45 @@ start =
 abbrev quiet : List Call
 quiet =
     start
-    ++ by (principal ann) (putView all (internet (2 ∷ [])) 2)
+    ++ by (principal ann) (createView all (internet (2 ∷ [])) 2)
     ∷ annAsks 1
+    ∷ by (principal ann) (changeMapping ann leads)
+    ∷ by (principal ann) (createMapping ann leads)
     ∷ by (principal ann) (removeMapping ann)
     ∷ by (principal ann) (removeMapping ann)
     ∷ []
 
--- cal tries to map ann elsewhere, to put a context, and edits a view of its own
+-- cal tries to map ann elsewhere, to create a context, and edits a view of its own
 abbrev busy : List Call
 busy =
-    by (principal cal) (putMapping ann train)
-    ∷ owner (putContext [])
-    ∷ owner (putMapping cal train)
-    ∷ owner (putMapping ann leads)
-    ∷ by (principal cal) (putContext base)
-    ∷ owner (putAccess leads all all [])
-    ∷ by (principal cal) (putMapping ann train)
-    ∷ owner (putView all (internet []) 1)
-    ∷ owner (putAccess train [] all [])
-    ∷ by (principal cal) (putView base (internet []) 1)
-    ∷ by (principal ann) (putView all (internet (2 ∷ [])) 2)
+    by (principal cal) (createMapping ann train)
+    ∷ owner (createContext [])
+    ∷ owner (createMapping cal train)
+    ∷ owner (createMapping ann leads)
+    ∷ by (principal cal) (createContext base)
+    ∷ owner (createAccess leads all all [])
+    ∷ by (principal cal) (changeMapping ann train)
+    ∷ owner (createView all (internet []) 1)
+    ∷ owner (createAccess train [] all [])
+    ∷ by (principal cal) (createView base (internet []) 1)
+    ∷ by (principal ann) (createView all (internet (2 ∷ [])) 2)
     ∷ annAsks 1
+    ∷ by (principal ann) (changeMapping ann leads)
+    ∷ by (principal ann) (createMapping ann leads)
     ∷ by (principal ann) (removeMapping ann)
     ∷ by (principal cal) (removeMapping cal)
     ∷ by (principal ann) (removeMapping ann)
     ∷ []
 
-busy-told : numbers (tells busy) ≡ 1 ∷ 0 ∷ 0 ∷ 0 ∷ 12 ∷ 0 ∷ 3 ∷ 0 ∷ 0 ∷ 0 ∷ 0 ∷ 5 ∷ 0 ∷ 0 ∷ 2 ∷ []
+busy-told : numbers (tells busy) ≡ 1 ∷ 0 ∷ 0 ∷ 0 ∷ 12 ∷ 0 ∷ 3 ∷ 0 ∷ 0 ∷ 0 ∷ 0 ∷ 5 ∷ 0 ∷ 18 ∷ 0 ∷ 0 ∷ 2 ∷ []
 unfolding tells
 busy-told = refl
 
 -- what the shared calls are told in both
-both-told : Shown quiet busy allMet allMet (0 ∷ 0 ∷ 0 ∷ 0 ∷ 0 ∷ 5 ∷ 0 ∷ 2 ∷ []) (0 ∷ 0 ∷ 0 ∷ 0 ∷ 0 ∷ 5 ∷ 0 ∷ 2 ∷ [])
+abbrev told : List ℕ
+told = 0 ∷ 0 ∷ 0 ∷ 0 ∷ 0 ∷ 5 ∷ 0 ∷ 18 ∷ 0 ∷ 2 ∷ []
+
+both-told : Shown quiet busy allMet allMet told told
 unfolding tells
 both-told = record { same-calls = refl; one-meets = refl; other-meets = refl; one-told = refl; other-told = refl }
 
@@ -234,32 +251,46 @@ owner-counts = (refl, refl, refl)
 abbrev prying : List Call → List Call
 prying others = start ++ others ++ by (principal ann) (removeMapping cal) ∷ []
 
-inside-counts : Shown (prying []) (prying (owner (putMapping cal train) ∷ []))
+inside-counts : Shown (prying []) (prying (owner (createMapping cal train) ∷ []))
     notInside notInside
     (0 ∷ 0 ∷ 0 ∷ 0 ∷ 10 ∷ []) (0 ∷ 0 ∷ 0 ∷ 0 ∷ 0 ∷ [])
 unfolding tells
 inside-counts = record { same-calls = refl; one-meets = refl; other-meets = refl; one-told = refl; other-told = refl }
 
--- members-grouped: a member of another group is told what that group's access rows say
+-- members-grouped: a member of another group is told what that group's access rows say, whether its mapping was changed or created so
 abbrev strayed : List Call → List Call
-strayed others = start ++ owner (putMapping ann train) ∷ others ++ annAsks 1 ∷ []
+strayed others = start ++ owner (changeMapping ann train) ∷ others ++ annAsks 1 ∷ []
 
-grouped-counts : Shown (strayed []) (strayed (owner (putAccess train all [] []) ∷ []))
+abbrev trainReads : List Call
+trainReads = owner (createAccess train all [] []) ∷ []
+
+change-grouped-counts : Shown (strayed []) (strayed trainReads)
     notGrouped notGrouped
     (0 ∷ 0 ∷ 0 ∷ 0 ∷ 0 ∷ 3 ∷ []) (0 ∷ 0 ∷ 0 ∷ 0 ∷ 0 ∷ 0 ∷ [])
 unfolding tells
-grouped-counts = record { same-calls = refl; one-meets = refl; other-meets = refl; one-told = refl; other-told = refl }
+change-grouped-counts = record { same-calls = refl; one-meets = refl; other-meets = refl; one-told = refl; other-told = refl }
+
+abbrev elsewhere : List Call → List Call
+elsewhere others =
+    owner (createContext [])
+    ∷ owner (createMapping ann train)
+    ∷ owner (createView all (internet []) 1)
+    ∷ (others ++ annAsks 1 ∷ [])
+
+create-grouped-counts : Shown (elsewhere []) (elsewhere trainReads) notGrouped notGrouped (0 ∷ 0 ∷ 0 ∷ 3 ∷ []) (0 ∷ 0 ∷ 0 ∷ 0 ∷ [])
+unfolding tells
+create-grouped-counts = record { same-calls = refl; one-meets = refl; other-meets = refl; one-told = refl; other-told = refl }
 
 -- views-chosen: a view that is not chosen is anybody's, whether read, write or notify names it
 abbrev unchosen : List ℕ → List ℕ → List ℕ → ℕ → List Call → List Call
 unchosen read write notify viewType others =
-    owner (putContext [])
-    ∷ owner (putMapping ann leads)
-    ∷ owner (putAccess leads read write notify)
+    owner (createContext [])
+    ∷ owner (createMapping ann leads)
+    ∷ owner (createAccess leads read write notify)
     ∷ (others ++ annAsks viewType ∷ [])
 
 abbrev baseView : List Call
-baseView = owner (putView base (internet []) 1) ∷ []
+baseView = owner (createView base (internet []) 1) ∷ []
 
 read-counts : Shown (unchosen base [] [] 1 []) (unchosen base [] [] 1 baseView)
     notChosen notChosen (0 ∷ 0 ∷ 0 ∷ 4 ∷ []) (0 ∷ 0 ∷ 0 ∷ 0 ∷ [])
@@ -276,21 +307,35 @@ notify-counts : Shown (unchosen [] [] base 3 []) (unchosen [] [] base 3 baseView
 unfolding tells
 notify-counts = record { same-calls = refl; one-meets = refl; other-meets = refl; one-told = refl; other-told = refl }
 
+-- also where the group's row is changed to name it
+abbrev renamed : List Call → List Call
+renamed others = start ++ owner (access Change leads base all []) ∷ others ++ annAsks 1 ∷ []
+
+change-chosen-counts : Shown (renamed []) (renamed baseView) notChosen notChosen (0 ∷ 0 ∷ 0 ∷ 0 ∷ 0 ∷ 4 ∷ []) (0 ∷ 0 ∷ 0 ∷ 0 ∷ 0 ∷ 0 ∷ [])
+unfolding tells
+change-chosen-counts = record { same-calls = refl; one-meets = refl; other-meets = refl; one-told = refl; other-told = refl }
+
 -- never-full: others' rows fill a table, in one list only
 abbrev crowd : ℕ → List Call
 crowd zero = []
-crowd (suc n) = owner (putMapping (suc n ∷ []) train) ∷ crowd n
+crowd (suc n) = owner (createMapping (suc n ∷ []) train) ∷ crowd n
 
 room-counts : Shown start (crowd 64 ++ start) allMet onceFull (0 ∷ 0 ∷ 0 ∷ 0 ∷ []) (0 ∷ 9 ∷ 0 ∷ 0 ∷ [])
 unfolding tells
 room-counts = record { same-calls = refl; one-meets = refl; other-meets = refl; one-told = refl; other-told = refl }
 
+-- a change wants no room
+full-changed : (numbers (picked circle (tells (start ++ crowd 63 ++ owner (changeMapping ann leads) ∷ owner (createMapping ann leads) ∷ [])))
+    ≡ 0 ∷ 0 ∷ 0 ∷ 0 ∷ 0 ∷ 18 ∷ [])
+unfolding tells
+full-changed = refl
+
 -- others-refused: an accepted edit of another principal, in one list only
 abbrev meddled : List Call
 meddled =
     start
-    ++ owner (putMapping cal train)
-    ∷ owner (putAccess train [] all [])
+    ++ owner (createMapping cal train)
+    ∷ owner (createAccess train [] all [])
     ∷ by (principal cal) (removeMapping ann)
     ∷ annAsks 1
     ∷ []

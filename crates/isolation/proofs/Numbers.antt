@@ -7,7 +7,7 @@ use Rattle.answers.specs.declared.Cause.{Cause}
 use Rattle.answers.specs.declared.Cause.the-variants.{NoSuchContext, NoGroupName, NoAccessEntry, NoSuchView, NotInView}
 use Rattle.answers.specs.declared.Fault.{Fault}
 use Rattle.answers.specs.declared.Fault.the-variants.{NotSound, OutOfRange, TableFull, RowAbsent, StorageForbids, ContextTable, NotAnInstance, Torn}
-use Rattle.answers.specs.declared.Fault.the-variants.{NotAscending, TooShort}
+use Rattle.answers.specs.declared.Fault.the-variants.{NotAscending, TooShort, RowHeld}
 use Rattle.answers.specs.Numbers.{causeNumber, faultNumber}
 use Rattle.numbers.proofs.Bools.{clash}
 use Rattle.edit_rules.specs.declared.Edited.{Edited}
@@ -39,6 +39,7 @@ fault-nine NotAnInstance e = clash e refl
 fault-nine Torn e = clash e refl
 fault-nine NotAscending e = clash e refl
 fault-nine TooShort e = clash e refl
+fault-nine RowHeld e = clash e refl
 
 fault-zero : (f : Fault) → eqb (faultNumber f) 0 ≡ false
 fault-zero NotSound = refl
@@ -51,6 +52,7 @@ fault-zero NotAnInstance = refl
 fault-zero Torn = refl
 fault-zero NotAscending = refl
 fault-zero TooShort = refl
+fault-zero RowHeld = refl
 
 pub nine-is-full : (r : Edited) → eqb (editedNumber r) 9 ≡ true → r ≡ Faulty TableFull
 nine-is-full Done e = clash e refl

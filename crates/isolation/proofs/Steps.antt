@@ -8,7 +8,7 @@ use Rattle.rows.specs.Tables.{Tables}
 use Rattle.edit_rules.specs.Edits.{Edit}
 use Rattle.edits.specs.Does.{Call, ask, owner, by, walk, decided, walked}
 use Rattle.edits.proofs.Steps.{stepped, step}
-use Rattle.isolation.specs.Isolation.{Circle, ofCircle, isMember, shared, implies, staysInside, insidersEdit, handsSuch, mapsToGroup, givesChosen}
+use Rattle.isolation.specs.Isolation.{Circle, ofCircle, isMember, shared, implies, staysInside, insidersEdit, keepsToGroup, keepsToViews}
 use Rattle.isolation.specs.Isolation.{findsRoom, othersRefused, Confined}
 use Rattle.isolation.proofs.Circles.{implied, circleRows, Orderly}
 use Rattle.isolation.proofs.Edits.{fits}
@@ -36,12 +36,12 @@ module _ (w : Circle) (t : Tables) where
   step-other (walk c identifier) h r = refl
 
   -- an edit by an insider fits
-  fits-both : (b : Bool) (e : Edit) → (ofCircle w e ≡ true → b ≡ true) → implies b (handsSuch (mapsToGroup w) e) ≡ true
-      → implies b (handsSuch (givesChosen w) e) ≡ true → fits w t e ≡ true
+  fits-both : (b : Bool) (e : Edit) → (ofCircle w e ≡ true → b ≡ true) → implies b (keepsToGroup w e) ≡ true
+      → implies b (keepsToViews w e) ≡ true → fits w t e ≡ true
   fits-both b e h g v = split (ofCircle w e) (λ o. rw o (and-both (implied b _ g (h o)) (implied b _ v (h o)))) (λ o. rw o)
 
-  pub step-orderly : (c : Call) → Orderly w t → insidersEdit w (handsSuch (mapsToGroup w)) c ≡ true
-      → insidersEdit w (handsSuch (givesChosen w)) c ≡ true → othersRefused w c (step t c .0) ≡ true → Orderly w (step t c .1)
+  pub step-orderly : (c : Call) → Orderly w t → insidersEdit w (keepsToGroup w) c ≡ true
+      → insidersEdit w (keepsToViews w) c ≡ true → othersRefused w c (step t c .0) ≡ true → Orderly w (step t c .1)
   unfolding step
   step-orderly (ask q) i g v r = i
   step-orderly (owner e) i g v r = owner-orderly w t e (fits-both (ofCircle w e) e (λ o. o) g v) i

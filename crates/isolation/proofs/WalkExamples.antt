@@ -29,7 +29,8 @@ use Rattle.isolation.specs.Isolation.{Told, calls, Run, Fresh, picked, k
 use Rattle.isolation.specs.Runs.{RunOf}
 use Rattle.isolation.proofs.Runs.{every-list-runs}
 use Rattle.isolation.proofs.Alone.{final}
-use Rattle.isolation.proofs.Examples.{ann, cal, leads, train, all, base, internet, circle, putContext, putMapping, putAccess, putFamily, putView}
+use Rattle.isolation.proofs.Examples.{ann, cal, leads, train, all, base, internet, circle}
+use Rattle.isolation.proofs.Examples.{createContext, createMapping, createAccess, createFamily, createView}
 use Rattle.isolation.proofs.Examples.{principal, tells, numbers, noWalk, fiveMet, Shown, ConfinedAll, confined-one, conditions-shown, all-hand-octets}
 
 -- ---- ann walks
@@ -49,7 +50,7 @@ reached (c, walked w) = w .identifier
 
 -- ann is mapped and may read by view "all", of which rows follow
 abbrev reading : List Call → List Call
-reading rows = owner (putContext []) ∷ owner (putMapping ann leads) ∷ owner (putAccess leads all [] []) ∷ rows
+reading rows = owner (createContext []) ∷ owner (createMapping ann leads) ∷ owner (createAccess leads all [] []) ∷ rows
 
 -- calls that are no walks, and then walks of ann: these are confined as her view is at the tables that they find
 confined-after : (t : Tables) (cs : List Call) (is : List (List ℕ)) → every noWalk cs ≡ true → RefusesOutside circle (final t cs) (principal ann)
@@ -133,14 +134,14 @@ own-refuses t e View key column l o out = read-by t e _
 -- ---- two lists that differ and meet every condition
 
 abbrev walking : List Call → List Call
-walking others = reading (owner (putView all (instance Context 1 []) 1) ∷ owner (putFamily all (mappingAt 3 ann 3) anyColumn 1) ∷ others)
+walking others = reading (owner (createView all (instance Context 1 []) 1) ∷ owner (createFamily all (mappingAt 3 ann 3) anyColumn 1) ∷ others)
 
 -- the rows of others
 abbrev company : List Call
 company =
-    owner (putMapping cal train)
-    ∷ owner (putAccess train [] all [])
-    ∷ by (principal cal) (putView base (internet []) 1)
+    owner (createMapping cal train)
+    ∷ owner (createAccess train [] all [])
+    ∷ by (principal cal) (createView base (internet []) 1)
     ∷ []
 
 -- from the first instance on, over cal's, to the last
@@ -194,13 +195,13 @@ accompanied-runs s b = every-list-runs s b accompanied (all-hand-octets accompan
 -- ---- walks-confined is needed: a view that has the status of every mapping tells whether cal has one
 
 abbrev statuses : List Call → List Call
-statuses others = reading (owner (putView all (instance Mapping 5 []) 1) ∷ others)
+statuses others = reading (owner (createView all (instance Mapping 5 []) 1) ∷ others)
 
 abbrev peering : List Call → List Call
 peering others = statuses others ++ annWalks (mappingAt 3 ann 5 ∷ [])
 
 abbrev calMapped : List Call
-calMapped = owner (putMapping cal train) ∷ []
+calMapped = owner (createMapping cal train) ∷ []
 
 walk-counts : Shown (peering []) (peering calMapped) (fiveMet false) (fiveMet false) (0 ∷ 0 ∷ 0 ∷ 0 ∷ 17 ∷ []) (0 ∷ 0 ∷ 0 ∷ 0 ∷ 0 ∷ [])
 unfolding tells

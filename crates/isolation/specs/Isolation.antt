@@ -21,7 +21,7 @@ use Rattle.rows.specs.Tables.{Tables, noRows}
 use Rattle.image.specs.Store.{held}
 use Rattle.instance_encode.specs.Instances.{lists, instance}
 use Rattle.table_update.specs.Tables.{rowAt}
-use Rattle.edit_rules.specs.Edits.{Edit, Caller, shapeOf}
+use Rattle.edit_rules.specs.Edits.{Edit, Caller, shapeOf, isCreate}
 use Rattle.edit_rules.specs.TableRows.{RowOf, rowOf, valuesOf, contextIndex, mappingIndex, accessIndex, viewIndex}
 use Rattle.walk_rules.specs.Walk.{mayRead}
 use Rattle.edits.specs.Does.{Call, ask, owner, by, walk, Reply, replyNumber, Does}
@@ -70,6 +70,14 @@ keyIn w View key = w .chosen (fieldAt 0 key)
 abbrev pub rowIn : Circle → (t : Table) → RowOf t → Bool
 rowIn w t r = keyIn w t (valuesOf t r)
 
+-- an edit is handed a row, where it is a create or a change, or a key alone
+abbrev pub isRow : Shape → Bool
+isRow Row = true
+isRow Key = false
+
+abbrev pub handsRow : Edit → Bool
+handsRow e = isRow (shapeOf (e .operation))
+
 -- Document 01: "An edit is of the circle by what it is handed, accepted or not, its row held or not: any context row, a mapping row
 -- whose principal is a member, an access row of the group, a view row of a chosen name." A row begins with its key's fields, and a removal is
 -- handed the key alone. Torn bytes are read as far as they go; such an edit is answered 7 whatever the rows.
@@ -113,13 +121,6 @@ insidersEdit w test (by c e) = implies (isMember w c && ofCircle w e) (test e)
 insidersEdit w test (walk c identifier) = true
 
 -- the row that an edit is handed passes a test. Document 01: "A removal is handed a key alone and breaks neither" condition.
-abbrev pub isRow : Shape → Bool
-isRow Row = true
-isRow Key = false
-
-abbrev pub handsRow : Edit → Bool
-handsRow e = isRow (shapeOf (e .operation))
-
 abbrev pub handsSuch : ((t : Table) → RowOf t → Bool) → Edit → Bool
 handsSuch test e = implies (handsRow e) (test (e .table) (rowOf (e .table) (e .bytes)))
 
@@ -129,6 +130,9 @@ mapsToGroup w Context r = true
 mapsToGroup w Mapping r = same (r .groupName) (w .group)
 mapsToGroup w Access r = true
 mapsToGroup w View r = true
+
+abbrev pub keepsToGroup : Circle → Edit → Bool
+keepsToGroup w e = handsSuch (mapsToGroup w) e
 
 -- ".. and its access rows to chosen views or the empty one ..". Document 01: "for read, write and notify names alike".
 abbrev pub chosenOrEmpty : Circle → List ℕ → Bool
@@ -144,9 +148,13 @@ givesChosen w Mapping r = true
 givesChosen w Access r = namesChosen w r
 givesChosen w View r = true
 
--- ".. and none of their puts there be answered 'table full' ..": 9, the number of no other case of an edit's answer
+abbrev pub keepsToViews : Circle → Edit → Bool
+keepsToViews w e = handsSuch (givesChosen w) e
+
+-- ".. and none of their puts there be answered 'table full' ..": 9, the number of no other case of an edit's answer. Document 02, ticket 6: "Where the
+-- circle's condition says put, it now says create."
 abbrev pub findsRoom : Reply → Edit → Bool
-findsRoom r e = implies (handsRow e) (not (eqb (replyNumber r) 9))
+findsRoom r e = implies (isCreate (e .operation)) (not (eqb (replyNumber r) 9))
 
 -- "Let other principals have no edit accepted in the circle ..": 0, likewise
 abbrev pub othersRefused : Circle → Call → Reply → Bool
@@ -183,10 +191,10 @@ pub record Conditions (w : Circle) {s t s′ t′ : List ℕ} {xs ys : List Told
   -- "Let every member's edit in both be of a circle row."
   pub members-inside : InBoth (λ c r. staysInside w c) rx ry
   -- "Let the members' and the owner's edits of the circle map members to that group alone ..
-  pub members-grouped : InBoth (λ c r. insidersEdit w (handsSuch (mapsToGroup w)) c) rx ry
+  pub members-grouped : InBoth (λ c r. insidersEdit w (keepsToGroup w) c) rx ry
   -- .. and its access rows to chosen views or the empty one, ..
-  pub views-chosen : InBoth (λ c r. insidersEdit w (handsSuch (givesChosen w)) c) rx ry
-  -- .. and none of their puts there be answered 'table full' in either list."
+  pub views-chosen : InBoth (λ c r. insidersEdit w (keepsToViews w) c) rx ry
+  -- .. and none of their" creates "there be answered 'table full' in either list."
   pub never-full : InBoth (λ c r. insidersEdit w (findsRoom r) c) rx ry
   -- "Let other principals have no edit accepted in the circle in either list."
   pub others-refused : InBoth (λ c r. othersRefused w c r) rx ry

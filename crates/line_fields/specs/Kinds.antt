@@ -1,7 +1,7 @@
 -- The fields of a line by their kinds, read from its words one after the other; a line of kinds has no word over.
 --
 --     Number       a decimal number          Key     a table's word and its key fields
---     Name         octets in hex             Edit    `put` and a row, a table's word and its fields, or `remove` and a key
+--     Name         octets in hex             Edit    `create` or `change` and a row, a table's word and its fields, or `remove` and a key
 --     Identifier   numbers with dots
 --
 -- What a line means picks its values by their places. Assumes nothing.
@@ -14,7 +14,7 @@ use Rattle.numbers.specs.Order.{same}
 use Rattle.rows.specs.declared.Table.{Table}
 use Rattle.rows.specs.declared.Table.the-variants.{Context}
 use Rattle.edit_rules.specs.declared.Operation.{Operation}
-use Rattle.edit_rules.specs.declared.Operation.the-variants.{Put, Remove}
+use Rattle.edit_rules.specs.declared.Operation.the-variants.{Create, Change, Remove}
 use Rattle.edit_rules.specs.Edits.{Edit, editOf}
 use Rattle.text_words.specs.Words.{decimal, hexOctets, dotted}
 use Rattle.text_rows.specs.EntryWords.{Entry, entrySaid}
@@ -33,7 +33,7 @@ valueOf o t b = record { operation = o; table = t; parts = b }
 
 -- what has no operation and no table has these
 abbrev pub plain : List ℕ → Value
-plain x = valueOf Put Context x
+plain x = valueOf Create Context x
 
 -- what a field says, and the words behind it
 pub record Taken : Type 0 where
@@ -58,13 +58,14 @@ abbrev pub entered : Operation → Option Entry → Option Taken
 entered o none = none
 entered o (some e) = some (taken (valueOf o (e .table) (e .bytes)) (e .rest))
 
--- put, remove
+-- create, change, remove
 abbrev pub operationWord : Operation → List ℕ
-operationWord Put = 112 ∷ 117 ∷ 116 ∷ []
+operationWord Create = 99 ∷ 114 ∷ 101 ∷ 97 ∷ 116 ∷ 101 ∷ []
+operationWord Change = 99 ∷ 104 ∷ 97 ∷ 110 ∷ 103 ∷ 101 ∷ []
 operationWord Remove = 114 ∷ 101 ∷ 109 ∷ 111 ∷ 118 ∷ 101 ∷ []
 
 abbrev pub operations : List Operation
-operations = Put ∷ Remove ∷ []
+operations = Create ∷ Change ∷ Remove ∷ []
 
 unfoldable pub operationNamed : List ℕ → Option Operation
 operationNamed w = find (λ o. same (operationWord o) w) operations

@@ -5,7 +5,7 @@ use mathlib.Core.List.{List}
 use mathlib.Core.Option.{Option, none, some}
 use Prim.Native.Nat.{ℕ, suc, _+_, _*_, _≤_, _<_}
 use lib.ListN.{length, take, getD, replicate}
-use Rattle.edit_rules.specs.declared.Operation.the-variants.{Put}
+use Rattle.edit_rules.specs.declared.Operation.the-variants.{Create}
 use Rattle.rows.specs.declared.Table.the-variants.{Context}
 use Rattle.text_words.specs.Words.{longest, between, wordsFrom}
 use Rattle.text_words.specs.declared.Filled.{Filled}
@@ -42,7 +42,7 @@ abbrev pub kindIn : List Kind → ℕ → Kind
 kindIn ks i = getD ks i Number
 
 abbrev pub plainSlot : (from end : ℕ) → Slot
-plainSlot from end = record { operation = Put; table = Context; from = from; end = end }
+plainSlot from end = record { operation = Create; table = Context; from = from; end = end }
 
 abbrev pub slotIn : List Slot → ℕ → Slot
 slotIn ss i = getD ss i (plainSlot 0 0)

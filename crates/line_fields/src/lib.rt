@@ -57,7 +57,7 @@ fn one_word(filled: Filled, from: usize, next: usize) -> Found
     };
     Found::At(
         Slot {
-            operation: Operation::Put,
+            operation: Operation::Create,
             table: Table::Context,
             from,
             end,
@@ -72,9 +72,10 @@ fn edit(word: &[u8], line: &[u8], at: usize, bytes: &mut [u8], from: usize) -> F
     ensures finds { λ r. ⌜ Finds r from at (now (line .entry)) (edited (now (word .entry)) (wordsFrom at (now (line .entry)))) ⌝ }
     ensures lays { λ r. ⌜ now (bytes .exit) ≡ laid from (editFront (now (word .entry)) (wordsFrom at (now (line .entry)))) (now (bytes .entry)) ⌝ }
 {
-    let operation = match text_words::place_of(word, b"put remove") {
-        0 => Operation::Put,
-        1 => Operation::Remove,
+    let operation = match text_words::place_of(word, b"create change remove") {
+        0 => Operation::Create,
+        1 => Operation::Change,
+        2 => Operation::Remove,
         _ => {
             return Found::Malformed;
         }
@@ -117,7 +118,7 @@ pub fn no_slots() -> [Slot; MOST_FIELDS]
     ensures { λ r. ⌜ r ≡ noSlots ⌝ }
 {
     [Slot {
-        operation: Operation::Put,
+        operation: Operation::Create,
         table: Table::Context,
         from: 0,
         end: 0,

@@ -9,7 +9,7 @@ use Rattle.text_words.specs.Words.{split, words, decimal, digitsFrom, hexDigit,
 use Rattle.rows.specs.declared.Table.the-variants.{Mapping, Access, View}
 use Rattle.rows.specs.Rows.{keyFields, rowFields}
 use Rattle.text_values.specs.Texts.{digits, decimalText, hexText, nameText, dotsText, dottedText}
-use Rattle.edit_rules.specs.declared.Operation.the-variants.{Put, Remove}
+use Rattle.edit_rules.specs.declared.Operation.the-variants.{Create, Remove}
 use Rattle.text_fields.specs.RowWords.{fieldsSaid}
 use Rattle.text_rows.specs.TableWords.{tableNamed}
 use Rattle.text_rows.specs.EntryWords.{entrySaid}
@@ -24,7 +24,7 @@ annLine =
 abbrev pub annRow : List ℕ
 annRow = 0 ∷ 0 ∷ 0 ∷ 3 ∷ 3 ∷ 97 ∷ 110 ∷ 110 ∷ 1 ∷ 97 ∷ 3 ∷ 1 ∷ []
 
-pub ann-said : entrySaid Put (words annLine) ≡ some (record { table = Mapping; bytes = annRow; rest = [] })
+pub ann-said : entrySaid Create (words annLine) ≡ some (record { table = Mapping; bytes = annRow; rest = [] })
 unfolding same split tableNamed decimal digitsFrom hexDigit hexPairs hexOctets rowFields entrySaid fieldsSaid bind
 ann-said = refl
 

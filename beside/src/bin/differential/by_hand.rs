@@ -28,7 +28,7 @@ fn lent(r: &Request) -> handwritten::Request<'_> {
 }
 
 /// The hand-written edits on a store, beside the reference's on its tables; after each a decision, its explanation, both matches and a
-/// principal's put.
+/// principal's create or change.
 pub fn on_a_store(tally: &mut Tally, random: &mut Random, rounds: usize) {
     for _ in 0..rounds {
         let world = World::any(random);
@@ -38,35 +38,8 @@ pub fn on_a_store(tally: &mut Tally, random: &mut Random, rounds: usize) {
         tally.check(handwritten::read_image(&bytes, &mut store) == 0, || "handwritten: a sound image is refused".to_string());
         for _ in 0..200 {
             let edit = edit(random, &world, &held);
-            let table = edit.key().table() as u32;
-            let expected;
-            let got;
-            match &edit {
-                Edit::Put(row) => {
-                    let mut bytes = image::row_bytes(row);
-                    if random.chance(4) {
-                        bytes.truncate(random.between(0, bytes.len()));
-                    }
-                    expected = match image::read_row(TABLES[table as usize], &bytes) {
-                        Ok(row) => owner_edit(&mut held, &Edit::Put(row)),
-                        Err(_) => 7,
-                    };
-                    got = handwritten::owner_put(&mut store, table, &bytes);
-                }
-                Edit::Remove(key) => {
-                    if !key.legal() {
-                        continue;
-                    }
-                    expected = owner_edit(&mut held, &edit);
-                    got = handwritten::owner_remove(&mut store, table, &image::key_bytes(key));
-                }
-            }
-            tally.meet("handwritten", format!("owner's edit: {expected}"));
-            let image = image::write(&held);
-            let mut out = [0u8; handwritten::ROOM];
-            let written = handwritten::write_image(&store, &mut out);
-            let same = got == expected && written == image.len() as u64 && out[..image.len()] == image[..];
-            tally.check(same, || format!("handwritten: {edit:?} is {got}, not {expected}, or the rows differ"));
+            let cut = random.chance(4);
+            check_owner_edit(tally, random, &mut store, &mut held, &edit, cut);
             let asked = request(random, &world, &held);
             let got = handwritten::store_decide(&store, &lent(&asked), &asked.variable);
             let expected = decide(&held, &asked);
@@ -79,24 +52,81 @@ pub fn on_a_store(tally: &mut Tally, random: &mut Random, rounds: usize) {
                 check_match(tally, random, &store, &held, &asked);
             }
             let asked = principal_call(random, &world, &held);
-            check_principal_put(tally, random, &mut store, &mut held, &asked);
+            let short = random.chance(2);
+            check_principal_row(tally, &mut store, &mut held, &asked, short);
         }
     }
 }
 
-/// A principal's put, and the store that it leaves; now and then on a store a byte short.
-fn check_principal_put(tally: &mut Tally, random: &mut Random, store: &mut [u8], held: &mut Tables, asked: &Call) {
-    let Call::Principal(caller, Edit::Put(row)) = asked else { return };
-    let bytes = image::row_bytes(row);
-    let short = random.chance(2);
-    let expected = match image::read_row(row.table(), &bytes) {
-        _ if short => 6,
-        Ok(row) => principal_edit(held, caller, &Edit::Put(row)),
-        Err(_) => 7,
+/// Every storage, every set of columns and every field about the ends of its range, under edits.
+pub fn every_edit(tally: &mut Tally, random: &mut Random) {
+    for (mut held, calls) in [every::storages(), every::columns(), every::ranges()] {
+        let mut store = store_of(random, &image::write(&held));
+        for asked in &calls {
+            match asked {
+                Call::Owner(edit) => check_owner_edit(tally, random, &mut store, &mut held, edit, false),
+                Call::Principal(caller, edit @ Edit::Remove(key)) => {
+                    let is_accepted = principal_edit(&mut held, caller, edit) == 0;
+                    // by hand there is the owner's alone
+                    if is_accepted {
+                        handwritten::owner_remove(&mut store, key.table() as u32, &image::key_bytes(key));
+                    }
+                }
+                Call::Principal(..) => check_principal_row(tally, &mut store, &mut held, asked, false),
+                _ => {}
+            }
+        }
+    }
+}
+
+type OwnerEdit = fn(&mut [u8], u32, &[u8]) -> u32;
+type PrincipalEdit = fn(&mut [u8], u32, &[u8], u32, u32, &[u8]) -> u32;
+
+/// The owner's edit, a row's bytes whole or cut, and the image of the store that it leaves.
+fn check_owner_edit(tally: &mut Tally, random: &mut Random, store: &mut [u8], held: &mut Tables, edit: &Edit, cut: bool) {
+    let table = edit.key().table();
+    let mut row_edit = |row: &Row, by_hand: OwnerEdit, edit_of: fn(Row) -> Edit| {
+        let mut bytes = image::row_bytes(row);
+        if cut {
+            bytes.truncate(random.between(0, bytes.len()));
+        }
+        let expected = image::read_row(table, &bytes).map_or(7, |row| owner_edit(held, &edit_of(row)));
+        (by_hand(store, table as u32, &bytes), expected)
     };
-    let lent = &mut store[usize::from(short)..];
-    let got = handwritten::principal_put(lent, caller.model, &caller.name, caller.level, row.table() as u32, &bytes);
-    tally.meet("handwritten", format!("principal's put: {expected}"));
+    let (name, (got, expected)) = match edit {
+        Edit::Create(row) => ("create", row_edit(row, handwritten::owner_create, Edit::Create)),
+        Edit::Change(row) => ("change", row_edit(row, handwritten::owner_change, Edit::Change)),
+        // its bytes would be another's
+        Edit::Remove(key) if !key.legal() => return,
+        Edit::Remove(key) => ("removal", (handwritten::owner_remove(store, table as u32, &image::key_bytes(key)), owner_edit(held, edit))),
+    };
+    tally.meet("handwritten", format!("owner's {name}: {expected}"));
+    let image = image::write(held);
+    let mut out = [0u8; handwritten::ROOM];
+    let written = handwritten::write_image(store, &mut out);
+    let same = got == expected && written == image.len() as u64 && out[..image.len()] == image[..];
+    tally.check(same, || format!("handwritten: {edit:?} is {got}, not {expected}, or the rows differ"));
+}
+
+/// A principal's create or change, on a whole store or on one a byte short, and the store that it leaves.
+fn check_principal_row(tally: &mut Tally, store: &mut [u8], held: &mut Tables, asked: &Call, short: bool) {
+    let Call::Principal(caller, edit) = asked else { return };
+    let mut row_edit = |row: &Row, by_hand: PrincipalEdit, edit_of: fn(Row) -> Edit| {
+        let bytes = image::row_bytes(row);
+        let expected = match image::read_row(row.table(), &bytes) {
+            _ if short => 6,
+            Ok(row) => principal_edit(held, caller, &edit_of(row)),
+            Err(_) => 7,
+        };
+        let lent = &mut store[usize::from(short)..];
+        (by_hand(lent, caller.model, &caller.name, caller.level, row.table() as u32, &bytes), expected)
+    };
+    let (name, (got, expected)) = match edit {
+        Edit::Create(row) => ("create", row_edit(row, handwritten::principal_create, Edit::Create)),
+        Edit::Change(row) => ("change", row_edit(row, handwritten::principal_change, Edit::Change)),
+        Edit::Remove(_) => return,
+    };
+    tally.meet("handwritten", format!("principal's {name}: {expected}"));
     let image = image::write(held);
     tally.check(got == expected && store[..image.len()] == image[..], || {
         format!("handwritten: {} is {got}, not {expected}, or the rows differ", call_text(asked))

@@ -101,11 +101,14 @@ fn program_part(tally: &mut Tally, settings: &Settings, name: &'static str) -> R
                     ("explain", EXPLAINED),
                     ("explain, a candidate lost by its", &["model", "prefix", "level", "length", "order"]),
                     ("explain, would be shown if active", &["mapping", "access", "view"]),
-                    ("owner put", &["0", "7", "9"]),
+                    ("owner create", &["0", "7", "9", "18"]),
+                    ("owner change", &["0", "7", "10"]),
                     ("owner remove", &["0", "7", "10"]),
-                    ("principal put", &["0", "1", "2", "3", "4", "5", "7", "9", "11", "12"]),
+                    ("principal create", &["0", "1", "2", "3", "4", "5", "7", "9", "11", "12", "18"]),
+                    ("principal change", &["0", "1", "2", "3", "4", "5", "7", "10", "11", "12"]),
                     ("principal remove", &["0", "1", "2", "3", "4", "5", "7", "10", "11", "12"]),
-                    ("put, then removal, by some columns", &["0 and 0", "4 and 4", "5 and 0", "5 and 5", "5 and 10"]),
+                    ("by some columns, not held: change, create, removal", &["4, 4, 4", "5, 5, 5", "5, 5, 10", "10, 0, 0"]),
+                    ("by some columns, held: create, change, removal", &["4, 4, 4", "5, 5, 0", "5, 5, 5", "18, 0, 0"]),
                     ("encode", &["oid", "7"]),
                     ("decode", &["instance", "13"]),
                     ("match view", &["included", "excluded", "none", "7"]),
@@ -125,6 +128,7 @@ fn call_part(tally: &mut Tally, settings: &Settings, name: &'static str) -> Resu
     let mut random = Random::new(settings.seed);
     if name == "handwritten" {
         by_hand::on_a_store(tally, &mut random, settings.rounds);
+        by_hand::every_edit(tally, &mut random);
         by_hand::explanations(tally, &mut random, settings.rounds);
         by_hand::walks(tally, &mut random, settings.rounds);
         tally.require(
@@ -132,7 +136,11 @@ fn call_part(tally: &mut Tally, settings: &Settings, name: &'static str) -> Resu
             &[
                 ("match view", &["included", "excluded", "none", "6", "7"]),
                 ("match access", &["own model", "model 0", "none", "6", "7"]),
-                ("principal's put", &["0", "1", "2", "3", "4", "5", "6", "7", "9", "11", "12"]),
+                ("owner's create", &["0", "7", "9", "18"]),
+                ("owner's change", &["0", "7", "10"]),
+                ("owner's removal", &["0", "10"]),
+                ("principal's create", &["0", "1", "2", "3", "4", "5", "6", "7", "9", "11", "12", "18"]),
+                ("principal's change", &["0", "1", "2", "3", "4", "5", "6", "7", "10", "11", "12"]),
                 ("explanation", EXPLAINED),
                 ("explanation", &["6"]),
                 ("walk", &["context", "mapping", "access", "view", "1", "2", "3", "4", "6", "7", "17"]),

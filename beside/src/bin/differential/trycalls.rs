@@ -5,7 +5,7 @@ use crate::explanations::{self, explained};
 use crate::programs::{answer_kind, answers, compare, Input, Program};
 use crate::tally::Tally;
 use crate::tryreq::{line_ends, spelt, P12};
-use beside::generate::calls::{call, spoil_row};
+use beside::generate::calls::{call, fitting, spoil_row, with_key};
 use beside::generate::damage::{beyond_largest, every_damage, one_of_each};
 use beside::generate::every::{access_match, columns, instances, ranges, step_five, step_three, storages, view_match, Case};
 use beside::generate::lines::{every_alteration, every_wrap};
@@ -13,7 +13,7 @@ use beside::generate::lists::{agreeing_starts, list_keeps, two_lists, Circle};
 use beside::generate::world::{self, grant, largest, tables, Size, World};
 use beside::random::Random;
 use beside::reference::decision::Request;
-use beside::reference::edits::Edit;
+use beside::reference::edits::{Caller, Edit};
 use beside::reference::image;
 use beside::reference::lines::{self, call_of, call_text, hex, Call};
 use beside::reference::ridge;
@@ -25,15 +25,21 @@ const FRESH: [u8; 8] = [0; 8];
 pub fn run(tally: &mut Tally, random: &mut Random, program: &mut Program, rounds: usize) {
     let ridge = image::write(&ridge::tables());
     let image_line = || b"image".to_vec();
-    let example = ["owner put mapping 3 616e6e 6c65616473 3 1", "decode 1.3.6.1.6.3.16.1.2.1.5.3.3.97.110.110", "encode 5 mapping 3 616e6e", "image"];
+    let example = [
+        "owner create mapping 3 616e6e 6c65616473 3 1",
+        "owner change mapping 3 616e6e 747261696e 3 1",
+        "decode 1.3.6.1.6.3.16.1.2.1.5.3.3.97.110.110",
+        "encode 5 mapping 3 616e6e",
+        "image",
+    ];
     for tables in [Some(&P12[..]), Some(&FRESH[..]), Some(&ridge[..]), Some(&b""[..]), None] {
         compare(tally, program, tables, &Input::texts(example));
     }
-    for lines in [ridge::MATCHES, ridge::EXPLANATIONS] {
+    for lines in [ridge::MATCHES, ridge::EXPLANATIONS, ridge::EDITS] {
         compare(tally, program, Some(&ridge), &Input::texts(lines.iter().map(|(line, _)| *line)));
     }
     line_ends(tally, program, &ridge, "encode 5 mapping 3 616e6e");
-    line_ends(tally, program, &ridge, "owner put mapping 3 616e6e 6c65616473 3 1");
+    line_ends(tally, program, &ridge, "owner change mapping 3 616e6e 6c65616473 3 1");
     for line in FORMS {
         alterations(tally, random, program, &ridge, line);
     }
@@ -71,16 +77,18 @@ pub fn run(tally: &mut Tally, random: &mut Random, program: &mut Program, rounds
     }
 }
 
-/// Edits by views that have some columns only; how often a put is refused where the removal of its row is not.
+/// Edits by views that have some columns only: how often a create and a change are refused at a column where the removal of their row is not.
 fn some_columns(tally: &mut Tally, program: &mut Program) {
     let (start, calls) = columns();
     let answers = answers(&compare(tally, program, Some(&image::write(&start)), &Input::calls(&calls)));
-    for (calls, answers) in calls.windows(2).zip(answers.windows(2)) {
-        if let [Call::Principal(_, Edit::Put(row)), Call::Principal(_, Edit::Remove(key))] = calls {
-            if row.key() == *key {
-                tally.meet(program.name, format!("put, then removal, by some columns: {} and {}", answers[0], answers[1]));
-            }
-        }
+    for (calls, answers) in calls.windows(3).zip(answers.windows(3)) {
+        let [Call::Principal(_, first), Call::Principal(_, second), Call::Principal(_, Edit::Remove(_))] = calls else { continue };
+        let place = match (first, second) {
+            (Edit::Change(_), Edit::Create(_)) => "not held: change, create, removal",
+            (Edit::Create(_), Edit::Change(_)) => "held: create, change, removal",
+            _ => continue,
+        };
+        tally.meet(program.name, format!("by some columns, {place}: {}", answers.join(", ")));
     }
 }
 
@@ -95,15 +103,19 @@ fn matches(tally: &mut Tally, program: &mut Program, case: &Case, asked: fn(&Req
 const FORMS: &[&str] = &[
     "decide 3 3 1 616e6e 726964676531 1.3.6.1.2.1.2.2.1.8.2",
     "explain 3 3 1 616e6e 726964676531 1.3.6.1.2.1.2.2.1.8.2",
-    "owner put context 7a",
+    "owner create context 7a",
+    "owner change context -",
     "owner remove context -",
-    "owner put mapping 3 626f62 6c65616473 3 1",
+    "owner create mapping 3 626f62 6c65616473 3 1",
+    "owner change mapping 3 616e6e 747261696e 3 1",
     "owner remove mapping 3 616e6e",
-    "owner put access 6c65616473 - 0 1 2 616c6c 616c6c 676f6e65 3 1",
+    "owner create access 6c65616473 7269 3 2 2 616c6c - 676f6e65 3 1",
+    "owner change access 6c65616473 - 0 1 2 616c6c 616c6c 676f6e65 3 1",
     "owner remove access 6c65616473 7269 3 2",
-    "owner put view 616c6c 1.3.6.2 ff80 1 3 1",
+    "owner create view 616c6c 1.3.6.2 ff80 1 3 1",
     "owner remove view 616c6c 1.3.6.1",
-    "principal 3 616e6e 1 put mapping 3 63616c 747261696e 3 1",
+    "principal 3 616e6e 1 create mapping 3 626f62 747261696e 3 1",
+    "principal 3 616e6e 1 change mapping 3 63616c 747261696e 3 1",
     "principal 3 616e6e 1 remove view 62617365 1.3.6.1",
     "encode 5 mapping 3 616e6e",
     "decode 1.3.6.1.6.3.16.1.1.1.1.1.97",
@@ -138,7 +150,7 @@ fn calls_list(random: &mut Random, world: &World, start: &Tables) -> Vec<Vec<u8>
                 let mut granted = Tables::default();
                 grant(random, world, &mut granted);
                 let row = random.pick(&granted.rows()).clone();
-                call_text(&Call::Owner(Edit::Put(row))).into_bytes()
+                call_text(&Call::Owner(fitting(&held, row))).into_bytes()
             }
             _ => {
                 let text = call_text(&call(random, world, &held));
@@ -158,7 +170,8 @@ pub fn play(held: &mut Tables, line: &[u8]) -> Option<String> {
     Some(lines::answer(held, &call))
 }
 
-/// Rows put one by one in random order until every table is past its limit, then taken out again.
+/// Rows created one by one in random order until every table is past its limit, some of them twice and some changed, before or after; then
+/// taken out again.
 fn growth(random: &mut Random, round: usize) -> Vec<Call> {
     let size = [Size::Wide, Size::Maximal][round % 2];
     let world = World::new(random, size);
@@ -168,7 +181,11 @@ fn growth(random: &mut Random, round: usize) -> Vec<Call> {
         for _ in 0..2 * table.limit() {
             let row = world::row(random, &world, table);
             keys.push(row.key());
-            calls.push(Call::Owner(Edit::Put(row)));
+            if random.chance(25) {
+                let changed = with_key(world::row(random, &world, table), row.key());
+                calls.push(Call::Owner(Edit::Change(changed)));
+            }
+            calls.push(Call::Owner(Edit::Create(row)));
         }
     }
     random.shuffle(&mut calls);
@@ -179,30 +196,29 @@ fn growth(random: &mut Random, round: usize) -> Vec<Call> {
     calls
 }
 
-/// A granted principal's edits of full tables: 9 for a new row, 11 before it, 0 for a held one.
+/// A granted principal's edits of full tables. A create is answered 18 for a held row and 9 for a new one, a change 10 for a new row and 0
+/// for a held one; 11 comes before 9.
 fn refusals_when_full(tally: &mut Tally, random: &mut Random, program: &mut Program) {
     let world = World::new(random, Size::Wide);
     let mut tables = world::filled(random, &world, TABLES.map(Table::limit));
-    let mapping = grant(random, &world, &mut tables);
-    let mut list = Vec::new();
-    for _ in 0..120 {
+    let Mapping { model, name, .. } = grant(random, &world, &mut tables);
+    let mut calls = Vec::new();
+    for _ in 0..160 {
         let table = random.of(&[Table::Mapping, Table::Access, Table::View]);
         let mut row = world::row(random, &world, table);
+        if random.chance(40) {
+            row = with_key(row, random.pick(&tables.rows_of(table)).key());
+        }
         if random.chance(5) {
             spoil_row(random, &mut row);
         }
-        let level = random.between(1, 3);
-        let put = Call::Owner(Edit::Put(row));
-        let text = call_text(&put);
-        let text = if random.chance(70) {
-            text.replacen("owner", &format!("principal {} {} {}", mapping.model, lines::hex_or_dash(&mapping.name), level), 1)
-        } else {
-            text
-        };
-        list.push(text.into_bytes());
+        let edit = if random.chance(50) { Edit::Create(row) } else { Edit::Change(row) };
+        let level = random.between(1, 3) as u32;
+        let caller = Caller { model, name: name.clone(), level };
+        calls.push(if random.chance(70) { Call::Principal(caller, edit) } else { Call::Owner(edit) });
     }
-    list.push(b"image".to_vec());
-    compare(tally, program, Some(&image::write(&tables)), &Input::of(list));
+    calls.push(Call::Image);
+    compare(tally, program, Some(&image::write(&tables)), &Input::calls(&calls));
 }
 
 /// Demand 3 on the program itself: two lists with the same shared calls give these the same answers and leave the same circle, from fresh

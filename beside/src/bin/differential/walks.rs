@@ -5,14 +5,14 @@ use crate::programs::{answers, compare, Input, Program};
 use crate::tally::Tally;
 use crate::trycalls::{alterations, isolation, play};
 use crate::tryreq::{line_ends, spelt};
-use beside::generate::calls::call;
+use beside::generate::calls::{call, mostly_fitting};
 use beside::generate::damage::{beyond_largest, every_damage, one_of_each};
 use beside::generate::every::{walk_ranges, walks};
 use beside::generate::walks::{ascending, callers, grant_reading, ridge_walks, walk};
 use beside::generate::world::{self, largest, tables, Size, World};
 use beside::random::Random;
 use beside::reference::decision::{decide, Request, READ};
-use beside::reference::edits::{Caller, Edit};
+use beside::reference::edits::Caller;
 use beside::reference::image;
 use beside::reference::lines::{call_text, Call};
 use beside::reference::ridge;
@@ -70,7 +70,8 @@ fn walks_list(random: &mut Random, world: &World, start: &Tables) -> Vec<Vec<u8>
             0 => {
                 let mut granted = Tables::default();
                 grant_reading(random, world, &mut granted, 1);
-                Call::Owner(Edit::Put(random.pick(&granted.rows()).clone()))
+                let row = random.pick(&granted.rows()).clone();
+                Call::Owner(mostly_fitting(random, &held, row))
             }
             1..=5 => call(random, world, &held),
             _ => walk(random, world, &held, &last),

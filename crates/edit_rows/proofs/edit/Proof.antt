@@ -1,4 +1,4 @@
--- `edit_rows::change` meets its contract. The key at the front of the bytes is sought in its table, and what is judged at its place, and then
+-- `edit_rows::edit` meets its contract. The key at the front of the bytes is sought in its table, and what is judged at its place, and then
 -- whether there is room, is the edit's answer. Where that is a refusal the store stays; where it is Done what `exchange` requires is met, and the
 -- rows that it leaves are those of the edit (`Stores`). Assumes nothing.
 use mathlib.Core.Path.{_≡_, sym, ap, _∙_}
@@ -19,9 +19,9 @@ use Rattle.edit_rules.specs.Storage.{storageIn, storageAt, placeFault, placed, 
 use Rattle.edit_rows.specs.Promise.{lengthIn}
 use Rattle.edit_rows.proofs.Stores.{inside-laid, rising-laid, views-laid, sought-laid, key-within}
 use Rattle.edit_rows.proofs.Stores.{faulty-done, not-done, placed-judged, placed-full, placed-room}
-use Rattle.edit_rows.proofs.Stores.{taken-within, storage-known, change-refused, change-asked, change-done}
-use Rattle.edit_rows.proofs.change.Statement.{statement}
-use Rattle.edit_rows.proofs.change.Tie as tie
+use Rattle.edit_rows.proofs.Stores.{taken-within, storage-known, place-refused, place-asked, place-done}
+use Rattle.edit_rows.proofs.edit.Statement.{statement}
+use Rattle.edit_rows.proofs.edit.Tie as tie
 
 abbrev start : tie.After-extent-of → tie.Start
 start x = x .before .before .before
@@ -49,11 +49,11 @@ abbrev faultIn : tie.After-seek → Option Fault
 faultIn k =
     let a = start (laid k) .args in
     let p = k .seek .result in
-    placeFault (a .strict) (a .c) (p .present) (storageAt (a .w .now) p) (storageIn (a .bytes .now))
+    placeFault (a .strict) (a .o) (p .present) (storageAt (a .w .now) p) (storageIn (a .bytes .now))
 
 abbrev fullIn : tie.After-seek → Bool
 fullIn k =
-    let a = start (laid k) .args in fullAt (a .c) (k .seek .result .present) (limit (a .t)) (extentOf (a .t) (layoutOf (a .w .now)) .count)
+    let a = start (laid k) .args in fullAt (a .o) (limit (a .t)) (extentOf (a .t) (layoutOf (a .w .now)) .count)
 
 abbrev found : tie.After-judge-place → tie.After-seek
 found r = r .before .before
@@ -68,7 +68,7 @@ full-is f =
     let s = start x in
     let a = s .args in
     f .is-full .ensures
-    ∙ ap (λ y. fullAt (a .c) (k .seek .result .present) (limit (a .t)) (y .count)) (x .extent-of .ensures ∙ ap (extentOf (a .t)) (s .pre .0 .laid))
+    ∙ ap (λ y. fullAt (a .o) (limit (a .t)) (y .count)) (x .extent-of .ensures ∙ ap (extentOf (a .t)) (s .pre .0 .laid))
 
 -- nothing stands against it, and there is room
 done-is : (e : tie.Else1) → let k = found (judged (e .before)) in placed (faultIn k) (fullIn k) ≡ Done
@@ -79,7 +79,7 @@ done-is e =
 
 part-seek-end : tie.Need-part-seek-end
 part-seek-end c =
-    let s = start (c .before) in omega (arith, key-within (shapeOf (s .args .c)) (s .args .t) (s .args .bytes .now) (s .pre .1 .whole), s .pre .1 .key-is)
+    let s = start (c .before) in omega (arith, key-within (shapeOf (s .args .o)) (s .args .t) (s .args .bytes .now) (s .pre .1 .whole), s .pre .1 .key-is)
 
 seek-requires : tie.Need-seek-requires
 seek-requires c κs =
@@ -87,7 +87,7 @@ seek-requires c κs =
     let s = start x in
     let a = s .args in (
       inside-laid (s .pre .0 .sound) (s .pre .0 .laid) (a .t) (x .extent-of .ensures),
-      rising-laid (shapeOf (a .c)) (a .t) (a .w .now) (a .bytes .now) (s .pre .0 .sound) (store-bytes x) (handed-bytes x) (s .pre .1 .whole) (s .pre .0 .laid)
+      rising-laid (shapeOf (a .o)) (a .t) (a .w .now) (a .bytes .now) (s .pre .0 .sound) (store-bytes x) (handed-bytes x) (s .pre .1 .whole) (s .pre .0 .laid)
           (x .extent-of .ensures) (s .pre .1 .key-is),
     )
 
@@ -96,7 +96,7 @@ judge-place-requires c κs =
     let k = c .before in
     let x = laid k in
     let s = start x in
-    storage-known _ _ (s .pre .0 .sound) (store-bytes x) (s .args .strict) (s .pre .0 .free) _ (handed-bytes x) (sought k) (s .args .c) (s .pre .1 .whole)
+    storage-known _ _ (s .pre .0 .sound) (store-bytes x) (s .args .strict) (s .pre .0 .free) _ (handed-bytes x) (sought k) (s .args .o) (s .pre .1 .whole)
 
 returns : tie.Need-returns
 returns c =
@@ -104,7 +104,7 @@ returns c =
     let k = found r in
     let x = laid k in
     let s = start x in
-    change-refused _ _ (s .pre .0 .sound) (store-bytes x) (s .args .strict) (s .pre .0 .free) _ (handed-bytes x) (sought k) (s .args .c)
+    place-refused _ _ (s .pre .0 .sound) (store-bytes x) (s .args .strict) (s .pre .0 .free) _ (handed-bytes x) (sought k) (s .args .o)
     (s .pre .1 .whole) _ (placed-judged (faultIn k) (fullIn k) (r .judge-place .ensures) (not-done _ (c .match .keys2))) (not-done _ (c .match .keys2))
 
 returns-2 : tie.Need-returns-2
@@ -114,7 +114,7 @@ returns-2 c =
     let k = found r in
     let x = laid k in
     let s = start x in
-    change-refused _ _ (s .pre .0 .sound) (store-bytes x) (s .args .strict) (s .pre .0 .free) _ (handed-bytes x) (sought k) (s .args .c)
+    place-refused _ _ (s .pre .0 .sound) (store-bytes x) (s .args .strict) (s .pre .0 .free) _ (handed-bytes x) (sought k) (s .args .o)
     (s .pre .1 .whole) _
     (placed-full (faultIn k) (sym (r .judge-place .ensures) ∙ f .before .enum-told .given .1) (sym (full-is f) ∙ c .if1 .taken)) faulty-done
 
@@ -127,7 +127,7 @@ else-of n = n .before .before .before .before .before
 
 -- as many bytes as come into the table
 length-is : (n : tie.After-length-in) → let a = start (laid (found (judged (else-of n .before)))) .args in
-    n .length-in .result ≡ lengthIn (shapeOf (a .c)) (length (a .bytes .now))
+    n .length-in .result ≡ lengthIn (shapeOf (a .o)) (length (a .bytes .now))
 length-is n =
     let a = start (laid (found (judged (else-of n .before)))) .args in
     n .length-in .ensures ∙ ap (λ y. lengthIn y (length (a .bytes .now))) (n .before .shape-of .ensures)
@@ -136,7 +136,7 @@ part-exchange-end : tie.Need-part-exchange-end
 part-exchange-end c =
     let n = c .before in
     let s = start (laid (found (judged (else-of n .before)))) in
-    taken-within (shapeOf (s .args .c)) (s .args .bytes .now) (length-is n)
+    taken-within (shapeOf (s .args .o)) (s .args .bytes .now) (length-is n)
 
 exchange-requires : tie.Need-exchange-requires
 exchange-requires c κs =
@@ -145,7 +145,7 @@ exchange-requires c κs =
     let k = found (judged (e .before)) in
     let x = laid k in
     let s = start x in
-    change-asked _ _ (s .pre .0 .sound) (store-bytes x) (s .args .strict) (s .pre .0 .free) _ (handed-bytes x) (sought k) (s .args .c) (s .pre .1 .whole)
+    place-asked _ _ (s .pre .0 .sound) (store-bytes x) (s .args .strict) (s .pre .0 .free) _ (handed-bytes x) (sought k) (s .args .o) (s .pre .1 .whole)
     (done-is e) (s .pre .0 .laid) (x .extent-of .ensures) (n .before .before .end-of .ensures) (length-is n)
 
 returns-3 : tie.Need-returns-3
@@ -156,11 +156,11 @@ returns-3 c =
     let k = found (judged (e .before)) in
     let x = laid k in
     let s = start x in
-    change-done _ _ (s .pre .0 .sound) (store-bytes x) (s .args .strict) (s .pre .0 .free) _ (handed-bytes x) (sought k) (s .args .c) (s .pre .1 .whole)
+    place-done _ _ (s .pre .0 .sound) (store-bytes x) (s .args .strict) (s .pre .0 .free) _ (handed-bytes x) (sought k) (s .args .o) (s .pre .1 .whole)
     (done-is e) (length-is n) (y .exchange .ensures)
 
-pub change-spec : {M : Type 1} → statement M
-change-spec =
+pub edit-spec : {M : Type 1} → statement M
+edit-spec =
     tie.close
     (tie.spec (λ c κs. search needs) (λ c. search needs) (λ c. search needs) part-seek-end seek-requires judge-place-requires (λ c. search needs)
     (λ c. search needs) returns (λ c κs. search needs) (λ c. search needs) returns-2 end-of-requires (λ c κs. search needs) (λ c κs. search needs)

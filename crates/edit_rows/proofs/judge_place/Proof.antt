@@ -1,5 +1,5 @@
--- `edit_rows::judge_place` meets its contract: a removal of a row that is not held is refused as it is; past that, the storage, or that the owner
--- edits, decides. Assumes nothing.
+-- `edit_rows::judge_place` meets its contract: a row that is held where none may be, or not held where one must, is refused as it is; past that, the
+-- storage, or that the owner edits, decides. Assumes nothing.
 use mathlib.Core.Path.{_≡_, refl, sym, ap, _∙_}
 use mathlib.Core.Bool.{cond, not, _&&_}
 use mathlib.Core.Option.{Option, none, some}
@@ -10,8 +10,8 @@ use Rattle.answers.specs.declared.Fault.the-variants.{StorageForbids}
 use Rattle.rows.specs.Fields.{orElse}
 use Rattle.edit_rules.specs.declared.Edited.{Edited}
 use Rattle.edit_rules.specs.declared.Edited.the-variants.{Done}
-use Rattle.edit_rules.specs.Edits.{shapeOf, faulted, absentFault}
-use Rattle.edit_rules.specs.Storage.{storageIn, storageAt, mayChange}
+use Rattle.edit_rules.specs.Edits.{shapeOf, faulted, presenceFault}
+use Rattle.edit_rules.specs.Storage.{storageIn, storageAt, mayEdit}
 use Rattle.edit_rows.proofs.Stores.{faulty-done, not-done}
 use Rattle.edit_rows.proofs.judge_place.Statement.{statement}
 use Rattle.edit_rows.proofs.judge_place.Tie as tie
@@ -29,32 +29,32 @@ second-fault (some f) g e = absurd (faulty-done e)
 abbrev second : tie.Start → Option Fault
 second s =
     let a = s .args in
-    cond (a .strict && not (mayChange (shapeOf (a .c)) (storageAt (a .w .now) (a .p)) (storageIn (a .bytes .now)))) (some StorageForbids) none
+    cond (a .strict && not (mayEdit (shapeOf (a .o)) (storageAt (a .w .now) (a .p)) (storageIn (a .bytes .now)))) (some StorageForbids) none
 
--- a row is there where one must be
-there : (t : tie.After-enum-told) → let a = t .before .before .before .before .before .args in faulted (absentFault (a .c) (a .p .present)) ≡ Done
+-- a row is there where one must be, and not where none may be
+there : (t : tie.After-enum-told) → let a = t .before .before .before .before .before .args in faulted (presenceFault (a .o) (a .p .present)) ≡ Done
 there t = sym (t .before .before .judge-presence .ensures) ∙ t .enum-told .given .1
 
 passed : (t : tie.After-enum-told) → let s = t .before .before .before .before .before in
-    faulted (orElse (absentFault (s .args .c) (s .args .p .present)) (second s)) ≡ faulted (second s)
-passed t = let s = t .before .before .before .before .before in second-fault (absentFault (s .args .c) (s .args .p .present)) (second s) (there t)
+    faulted (orElse (presenceFault (s .args .o) (s .args .p .present)) (second s)) ≡ faulted (second s)
+passed t = let s = t .before .before .before .before .before in second-fault (presenceFault (s .args .o) (s .args .p .present)) (second s) (there t)
 
 returns : tie.Need-returns
 returns c =
     let s = c .before .before .before .before in
-    first-fault (absentFault (s .args .c) (s .args .p .present)) (second s) (c .before .judge-presence .ensures) (not-done _ (c .match .keys2))
+    first-fault (presenceFault (s .args .o) (s .args .p .present)) (second s) (c .before .judge-presence .ensures) (not-done _ (c .match .keys2))
 
-may-change-requires : tie.Need-may-change-requires
-may-change-requires c κs =
+may-edit-requires : tie.Need-may-edit-requires
+may-edit-requires c κs =
     let i = c .before in
     rw (c .shape-of .ensures) (i .before .before .before .before .before .before .pre (i .if1 .taken))
 
 -- as the storage lets it
-let-by : (m : tie.After-may-change) → let a = m .before .before .before .before .before .before .before .before .args in
-    m .may-change .result ≡ mayChange (shapeOf (a .c)) (storageAt (a .w .now) (a .p)) (storageIn (a .bytes .now))
+let-by : (m : tie.After-may-edit) → let a = m .before .before .before .before .before .before .before .before .args in
+    m .may-edit .result ≡ mayEdit (shapeOf (a .o)) (storageAt (a .w .now) (a .p)) (storageIn (a .bytes .now))
 let-by m =
     let a = m .before .before .before .before .before .before .before .before .args in
-    m .may-change .ensures ∙ ap (λ s. mayChange s (storageAt (a .w .now) (a .p)) (storageIn (a .bytes .now))) (m .before .shape-of .ensures)
+    m .may-edit .ensures ∙ ap (λ s. mayEdit s (storageAt (a .w .now) (a .p)) (storageIn (a .bytes .now))) (m .before .shape-of .ensures)
 
 returns-2 : tie.Need-returns-2
 returns-2 c =
@@ -74,4 +74,4 @@ returns-4 c = rw (passed (c .before), c .if1 .left)
 pub judge-place-spec : {M : Type 1} → statement M
 judge-place-spec =
     tie.close
-    (tie.spec (λ c κs. search needs) (λ c. search needs) returns (λ c κs. search needs) may-change-requires returns-2 returns-3 returns-4)
+    (tie.spec (λ c κs. search needs) (λ c. search needs) returns (λ c κs. search needs) may-edit-requires returns-2 returns-3 returns-4)

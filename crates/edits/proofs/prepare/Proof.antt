@@ -22,22 +22,22 @@ returns : tie.Need-returns
 returns c =
     let v = c .before .before in
     let a = v .before .before .before .args in
-    prepared-unsound (a .c) (a .t) (a .store .now) (a .bytes .now) (store-bad _ (sym (c .enum-told .given .1) ∙ v .survey-store .ensures))
+    prepared-unsound (a .o) (a .t) (a .store .now) (a .bytes .now) (store-bad _ (sym (c .enum-told .given .1) ∙ v .survey-store .ensures))
 
 returns-2 : tie.Need-returns-2
 returns-2 c =
     let j = c .before .before in
     let a = start (j .before) .args in
-    prepared-illegal (a .c) (a .t) (a .store .now) (a .bytes .now) (laid (j .before) .0)
-    (reached-bad _ _ _ (sym (j .judge-change .ensures) ∙ c .enum-told2 .given .1))
+    prepared-illegal (a .o) (a .t) (a .store .now) (a .bytes .now) (laid (j .before) .0)
+    (reached-bad _ _ _ (sym (j .judge-handed .ensures) ∙ c .enum-told2 .given .1))
 
 returns-3 : tie.Need-returns-3
 returns-3 c =
     let j = c .before .before .before in
     let k = j .before in
     let a = start k .args in
-    let r = reached-at _ _ _ (sym (j .judge-change .ensures) ∙ c .before .step .given .1) in
-    prepared-ready (a .c) (a .t) (a .store .now) (a .bytes .now) (laid k .0) (r .0) (laid k .1) (r .1)
+    let r = reached-at _ _ _ (sym (j .judge-handed .ensures) ∙ c .before .step .given .1) in
+    prepared-ready (a .o) (a .t) (a .store .now) (a .bytes .now) (laid k .0) (r .0) (laid k .1) (r .1)
 
 pub prepare-spec : {M : Type 1} → statement M
 prepare-spec =

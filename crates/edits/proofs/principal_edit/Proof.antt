@@ -1,5 +1,5 @@
 -- `edits::principal_edit` meets its contract. What is not ready is refused; a caller out of its ranges is 7; what is not admitted is 12 or 1 to 5,
--- the edit being judged by the index of the key at the front of its bytes; otherwise what `change` leaves is what the principal's edit says
+-- the edit being judged by the index of the key at the front of its bytes; otherwise what `edit_rows::edit` leaves is what the principal's edit says
 -- (`Calls`). Assumes nothing.
 use mathlib.Core.Path.{_≡_, sym, ap, ap₂, _∙_}
 use mathlib.Core.Bool.{true}
@@ -29,7 +29,7 @@ abbrev caller : tie.Start → Caller
 caller s = callerOf (s .args .security-model) (s .args .security-name .now) (s .args .security-level)
 
 abbrev wanted : tie.Start → Edit
-wanted s = editOf (s .args .c) (s .args .t) (s .args .bytes .now)
+wanted s = editOf (s .args .o) (s .args .t) (s .args .bytes .now)
 
 -- the store is sound and the edit legal; where the tables lie, and where the key ends
 facts : (k : tie.After-known-told2) → let a = start k .args in let p = k .before .prepared2 .given .0 in
@@ -37,10 +37,10 @@ facts : (k : tie.After-known-told2) → let a = start k .args in let p = k .befo
     (p .1 .0 ≡ span (keyFields (a .t)) (a .bytes .now))
 facts k =
     let a = start k .args in
-    ready (a .c) (a .t) (a .store .now) (a .bytes .now) (sym (k .before .prepared2 .given .1) ∙ k .before .before .before .prepare .ensures)
+    ready (a .o) (a .t) (a .store .now) (a .bytes .now) (sym (k .before .prepared2 .given .1) ∙ k .before .before .before .prepare .ensures)
 
-whole : (k : tie.After-known-told2) → let a = start k .args in faults (fieldsOf (shapeOf (a .c)) (a .t)) (a .bytes .now) ≡ none
-whole k = let a = start k .args in ready-whole (a .c) (a .t) (a .store .now) (a .bytes .now) (facts k .1)
+whole : (k : tie.After-known-told2) → let a = start k .args in faults (fieldsOf (shapeOf (a .o)) (a .t)) (a .bytes .now) ≡ none
+whole k = let a = start k .args in ready-whole (a .o) (a .t) (a .store .now) (a .bytes .now) (facts k .1)
 
 handed-bytes : (k : tie.After-known-told2) → Octets (start k .args .bytes .now)
 handed-bytes k i = omega (arith, k .before .before .before .before .before .shared-slice-known2 .given i)
@@ -69,7 +69,7 @@ admitted j =
     ∙ ap (admission (isContext (a .t)))
     (ap₂ (λ y index. judgementAt T (caller s) y (a .t) index) (j .before .shape-of .ensures)
     (ap (indexOf (a .t)) (key-part (a .t) (a .bytes .now) (sym (facts k .3)))
-    ∙ key-index (shapeOf (a .c)) (a .t) (a .bytes .now) (handed-bytes k) (whole k)))
+    ∙ key-index (shapeOf (a .o)) (a .t) (a .bytes .now) (handed-bytes k) (whole k)))
 
 returns : tie.Need-returns
 returns c =
@@ -81,7 +81,7 @@ part-key-end : tie.Need-part-key-end
 part-key-end c =
     let k = ready-at c in
     let a = start k .args in
-    omega (arith, key-within (shapeOf (a .c)) (a .t) (a .bytes .now) (whole k), facts k .3)
+    omega (arith, key-within (shapeOf (a .o)) (a .t) (a .bytes .now) (whole k), facts k .3)
 
 admit-requires : tie.Need-admit-requires
 admit-requires c κs =
@@ -89,7 +89,7 @@ admit-requires c κs =
     let a = start k .args in (
       sound-laid (facts k .0) (facts k .2),
       rw (key-part (a .t) (a .bytes .now) (sym (facts k .3)))
-          (key-legal (shapeOf (a .c)) (a .t) (a .bytes .now) (handed-bytes k) (whole k)),
+          (key-legal (shapeOf (a .o)) (a .t) (a .bytes .now) (handed-bytes k) (whole k)),
     )
 
 returns-2 : tie.Need-returns-2
@@ -105,8 +105,8 @@ granted : (m : tie.After-enum-told) → let k = ready-at (legal-at (m .before .b
     Granted ≡ admission (isContext (wanted s .table)) (judgement (tablesAt (s .args .store .now) (k .before .prepared2 .given .0 .0)) (caller s) (wanted s))
 granted m = sym (m .enum-told .given .1) ∙ admitted (m .before .before)
 
-change-requires : tie.Need-change-requires
-change-requires c κs =
+edit-requires : tie.Need-edit-requires
+edit-requires c κs =
     let m = c .before in
     let k = ready-at (legal-at (m .before .before)) in
     let a = start k .args in (
@@ -118,7 +118,7 @@ returns-3 : tie.Need-returns-3
 returns-3 c =
     let p = c .before .before .before in
     let s = p .before .before .before .before .before in
-    unready-principal (s .args .c) (s .args .t) (s .args .store .now) (s .args .bytes .now) (caller s)
+    unready-principal (s .args .o) (s .args .t) (s .args .store .now) (s .args .bytes .now) (caller s)
     (sym (c .before .prepared .given .1) ∙ p .prepare .ensures)
 
 returns-4 : tie.Need-returns-4
@@ -127,11 +127,11 @@ returns-4 c =
     let m = h .before .before in
     let e = legal-at (m .before .before) in
     let k = ready-at e in
-    principal-granted (caller (start k)) (wanted (start k)) _ (facts k .0) (legal e) (facts k .1) (facts k .2) (granted m) (h .change .ensures)
+    principal-granted (caller (start k)) (wanted (start k)) _ (facts k .0) (legal e) (facts k .1) (facts k .2) (granted m) (h .edit .ensures)
 
 pub principal-edit-spec : {M : Type 1} → statement M
 principal-edit-spec =
     tie.close
     (tie.spec (λ c κs. search needs) (λ c. search needs) (λ c. search needs) (λ c κs. search needs) (λ c. search needs) returns
     (λ c. search needs) (λ c. search needs) part-key-end (λ c κs. search needs) admit-requires (λ c. search needs) (λ c. search needs) returns-2
-    (λ c. search needs) change-requires (λ c. search needs) returns-3 (λ c. search needs) returns-4)
+    (λ c. search needs) edit-requires (λ c. search needs) returns-3 (λ c. search needs) returns-4)

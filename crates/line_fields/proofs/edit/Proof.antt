@@ -22,7 +22,8 @@ named : (c : tie.At-match-came) → some (c .match .operation) ≡ operationName
 unfolding operationNamed
 named c =
     ⊎-elim (λ w. rw (w .1) (named-at operationWord _ operations 0 (sym (w .0 .keys1) ∙ found (c .before))))
-    (λ w. rw (w .1) (named-at operationWord _ operations 1 (sym (w .0 .keys2) ∙ found (c .before))))
+    (⊎-elim (λ w. rw (w .1) (named-at operationWord _ operations 1 (sym (w .0 .keys2) ∙ found (c .before))))
+    (λ w. rw (w .1) (named-at operationWord _ operations 2 (sym (w .0 .keys3) ∙ found (c .before)))))
     (c .match .came)
 
 returns : tie.Need-returns
