@@ -5,3 +5,4 @@ pub mod Written
 pub mod Storages
 pub mod Outcomes
 pub mod Keys
+pub mod Presence

@@ -1,9 +1,7 @@
 -- The two numbers by which the statement's conditions go each belong to one case of an edit's answer: 9 to 'table full', 0 to an edit
 -- accepted; and 9 to creates alone. Case by case. Assumes nothing.
 use mathlib.Core.Path.{_≡_, refl, ap}
-use mathlib.Core.Bool.{Bool, true, false, cond, not, _&&_}
-use mathlib.Core.Option.{Option, none, some, Option·map}
-use Prim.Native.Nat.{ℕ}
+use mathlib.Core.Bool.{true, false, _&&_}
 use lib.Dec.{eqb}
 use Rattle.answers.specs.declared.Cause.{Cause}
 use Rattle.answers.specs.declared.Cause.the-variants.{NoSuchContext, NoGroupName, NoAccessEntry, NoSuchView, NotInView}
@@ -13,17 +11,12 @@ use Rattle.answers.specs.declared.Fault.the-variants.{NotAscending, TooShort, R
 use Rattle.answers.specs.declared.Decision.{Decision}
 use Rattle.answers.specs.declared.Decision.the-variants.{Allowed, Refused}
 use Rattle.answers.specs.Numbers.{causeNumber, faultNumber}
-use Rattle.numbers.specs.Lists.{isNone}
-use Rattle.numbers.proofs.Bools.{split, clash, and-left}
-use Rattle.rows.specs.Fields.{orElse}
+use Rattle.numbers.proofs.Bools.{split, clash}
 use Rattle.rows.specs.Tables.{Tables}
 use Rattle.edit_rules.specs.declared.Edited.{Edited}
 use Rattle.edit_rules.specs.declared.Edited.the-variants.{Done, Barred, Faulty}
-use Rattle.edit_rules.specs.declared.Operation.{Operation}
-use Rattle.edit_rules.specs.declared.Operation.the-variants.{Create, Change, Remove}
-use Rattle.edit_rules.specs.TableRows.{rowOf, storageOf}
-use Rattle.edit_rules.specs.Edits.{Edit, Caller, shapeOf, isCreate, rowHeld, legalEdit, legalCaller, isContext, storageLets, presenceFault, heldFault}
-use Rattle.edit_rules.specs.Edits.{rowFault, isFull, faulted, settled, judgement}
+use Rattle.edit_rules.specs.Edits.{Edit, Caller, isCreate, legalEdit, legalCaller, isContext, judgement}
+use Rattle.edit_rules.proofs.Presence.{row-nine, settled-nine}
 use Rattle.edits.specs.Calls.{editedNumber, allowed, ownerJudged, ownerEdit, principalJudged, principalEdit}
 
 cause-nine : (c : Cause) → eqb (causeNumber c) 9 ≡ false
@@ -78,44 +71,9 @@ zero-is-done (Faulty f) e = clash e (fault-zero f)
 
 -- ---- 9 is told of creates alone, so that the condition on creates excludes 'table full' altogether
 
-or-nine : (f g : Option Fault) → eqb (editedNumber (faulted f)) 9 ≡ false → eqb (editedNumber (faulted g)) 9 ≡ false
-    → eqb (editedNumber (faulted (orElse f g))) 9 ≡ false
-or-nine none g h k = k
-or-nine (some f) g h k = h
-
-presence-nine : (o : Operation) (held : Bool) → eqb (editedNumber (faulted (presenceFault o held))) 9 ≡ false
-presence-nine Create true = refl
-presence-nine Create false = refl
-presence-nine Change true = refl
-presence-nine Change false = refl
-presence-nine Remove true = refl
-presence-nine Remove false = refl
-
-storage-nine : (b : Bool) → eqb (editedNumber (faulted (cond b (some StorageForbids) none))) 9 ≡ false
-storage-nine true = refl
-storage-nine false = refl
-
-held-nine : (strict : Bool) (o : Operation) (old : Option ℕ) (new : ℕ) → eqb (editedNumber (faulted (heldFault strict o old new))) 9 ≡ false
-held-nine strict o old new =
-    let forbids = strict && not (storageLets (shapeOf o) old new) in
-    or-nine (presenceFault o (not (isNone old))) (cond forbids (some StorageForbids) none) (presence-nine o (not (isNone old))) (storage-nine forbids)
-
-row-nine : (strict : Bool) (ts : Tables) (e : Edit) → eqb (editedNumber (faulted (rowFault strict ts e))) 9 ≡ false
-unfolding rowFault
-row-nine strict ts e =
-    let t = e .table in held-nine strict (e .operation) (Option·map (storageOf t) (rowHeld ts e)) (storageOf t (rowOf t (e .bytes)))
-
 allowed-nine : (d : Decision) (v : Edited) → eqb (editedNumber v) 9 ≡ false → eqb (editedNumber (allowed d v)) 9 ≡ false
 allowed-nine Allowed v h = h
 allowed-nine (Refused c) v h = cause-nine c
-
--- by room alone
-settled-nine : (v : Edited) (ts : Tables) (e : Edit) → eqb (editedNumber v) 9 ≡ false → eqb (editedNumber (settled v ts e .answer)) 9 ≡ true
-    → isCreate (e .operation) ≡ true
-unfolding isFull
-settled-nine Done ts e h k = split (isFull ts e) (λ f. and-left (isCreate (e .operation)) _ f) (λ f. clash (rw f at k) refl)
-settled-nine (Barred c) ts e h k = clash k h
-settled-nine (Faulty f) ts e h k = clash k h
 
 pub owner-nine : (ts : Tables) (e : Edit) → eqb (editedNumber (ownerEdit ts e .answer)) 9 ≡ true → isCreate (e .operation) ≡ true
 unfolding ownerEdit ownerJudged

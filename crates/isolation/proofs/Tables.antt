@@ -1,21 +1,20 @@
--- A table's rows put, removed and found, at each index and beside the rows that a test keeps.
+-- A table's rows put, removed and found, beside the rows that a test keeps.
 -- A put and a removal keep the order and what holds of every row. Where the test goes by the index, a put or a removal of a row
 -- that is kept commutes with the test, and one of a row that is not kept does not show. Only the put of a kept row needs the order:
 -- where the row goes in before one that is not kept, it is before all that follow. Assumes nothing.
 use mathlib.Core.Path.{_≡_, refl, sym, ap, _∙_}
-use mathlib.Core.Bool.{Bool, true, false, cond}
+use mathlib.Core.Bool.{Bool, true, false}
 use mathlib.Core.List.{List, [], _∷_}
-use mathlib.Core.Option.{none, some}
+use mathlib.Core.Option.{none}
 use Prim.Native.Nat.{ℕ, _≤_}
 use native.Mathlib.Omega.{arith}
 use lib.ListN.{length}
 use Rattle.numbers.specs.Lists.{keep, every, first, find}
 use Rattle.numbers.specs.Order.{same, before}
-use Rattle.numbers.proofs.Bools.{split, clash, and-left, and-right, cond-same}
-use Rattle.numbers.proofs.Orders.{same-true, same-sym, before-not-same, before-total}
+use Rattle.numbers.proofs.Bools.{split, clash, and-left, and-right}
+use Rattle.numbers.proofs.Orders.{same-true, before-not-same, before-total}
 use Rattle.numbers.proofs.Keeps.{keep-keep, find-first}
 use Rattle.numbers.proofs.Greatest.{Under, Ascends, under-trans, under-keep}
-use Rattle.numbers.proofs.Ascending.{none-under}
 use Rattle.rows.specs.declared.Shape.{Shape}
 use Rattle.rows.specs.declared.Shape.the-variants.{Row, Key}
 use Rattle.table_update.specs.Tables.{rowAt, putRow, removeRow}
@@ -77,38 +76,6 @@ module _ {R : Type 0} (indexOf : R → List ℕ) where
       let rest : every g xs ≡ true = and-right (g x) _ a in
       let ih : every g (removeRow indexOf i xs) ≡ true = every-remove g i xs rest in
       split (same i (indexOf x)) (λ e. rw e rest) (λ e. rw (e, gx) ih)
-
-  -- the row at each index after a put, and after a removal
-  pub rowAt-put : (i : List ℕ) (r : R) (xs : List R) → rowAt indexOf i (putRow indexOf r xs) ≡ cond (same i (indexOf r)) (some r) (rowAt indexOf i xs)
-  rowAt-put i r [] = refl
-  rowAt-put i r (x ∷ xs) =
-      let ih : rowAt indexOf i (putRow indexOf r xs) ≡ cond (same i (indexOf r)) (some r) (rowAt indexOf i xs) = rowAt-put i r xs in
-      split (same (indexOf r) (indexOf x))
-      (λ e. rw (e, ← (same-true (indexOf r) (indexOf x) e))
-      (split (same i (indexOf r)) (λ q. rw q) (λ q. rw q)))
-      (λ e. split (before (indexOf r) (indexOf x)) (λ l. rw (e, l))
-      (λ l. rw (e, l, ih) (split (same i (indexOf x)) (λ q. rw (q, other i x e (same-true i (indexOf x) q))) (λ q. rw q))))
-    where
-      other : (i : List ℕ) (x : R) → same (indexOf r) (indexOf x) ≡ false → i ≡ indexOf x → same i (indexOf r) ≡ false
-      other i x e q = rw q (same-sym (indexOf x) (indexOf r) ∙ e)
-
-  pub rowAt-remove : (i j : List ℕ) (xs : List R) → Ascends indexOf xs
-      → rowAt indexOf j (removeRow indexOf i xs) ≡ cond (same j i) none (rowAt indexOf j xs)
-  rowAt-remove i j [] a = sym (cond-same (same j i) none)
-  rowAt-remove i j (x ∷ xs) a =
-      let ih : rowAt indexOf j (removeRow indexOf i xs) ≡ cond (same j i) none (rowAt indexOf j xs) = rowAt-remove i j xs (a .1) in
-      split (same i (indexOf x))
-      (λ e.
-      let k : i ≡ indexOf x = same-true i (indexOf x) e in
-      rw (e, ← k)
-      (split (same j i) (λ q. rw q (none-under indexOf j xs (under-at j (same-true j i q ∙ k)))) (λ q. rw q)))
-      (λ e. rw e (split (same j (indexOf x)) (λ q. rw (q, other (same-true j (indexOf x) q) e)) (λ q. rw q ih)))
-    where
-      under-at : (j : List ℕ) → j ≡ indexOf x → Under indexOf j xs
-      under-at j q = rw q (a .0)
-
-      other : j ≡ indexOf x → same i (indexOf x) ≡ false → same j i ≡ false
-      other q e = rw q (same-sym (indexOf x) i ∙ e)
 
   -- a row before all is put in front
   put-under : (r : R) (xs : List R) → Under indexOf (indexOf r) xs → putRow indexOf r xs ≡ r ∷ xs

@@ -10,3 +10,4 @@ pub mod Faults
 pub mod Stores
 pub mod Rooms
 pub mod Existence
+pub mod RowsAt
