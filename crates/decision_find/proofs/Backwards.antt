@@ -5,13 +5,12 @@
 use mathlib.Core.Path.{_≡_, refl, sym, ap, _∙_}
 use mathlib.Core.Bool.{Bool, true}
 use mathlib.Core.List.{List, [], _∷_, _++_}
-use mathlib.Core.Option.{Option, none, some}
 use Prim.Native.Nat.{ℕ, zero, suc, _+_, _-_, _*_, _≤_, _<_}
 use native.Mathlib.Omega.{arith}
 use lib.ListN.{length, take, drop, take-append-drop}
 use lib.Seq.{drop-drop}
-use Rattle.answers.specs.declared.Fault.{Fault}
 use Rattle.numbers.specs.Lists.{every, isNone}
+use Rattle.numbers.proofs.Options.{is-none}
 use Rattle.numbers.proofs.Bools.{and-left, and-right}
 use Rattle.numbers.proofs.Keeps.{every-append}
 use Rattle.rows.specs.declared.Table.{Table}
@@ -23,10 +22,6 @@ use Rattle.image_judge.specs.Faults.{SoundTable}
 use Rattle.image_layout.proofs.Walks.{piece, rest, pairs-next, pairs-over, Walk, rest-slice}
 use Rattle.image_judge.proofs.Sound.{every-whole}
 use Rattle.decision_steps.specs.Bytes.{Whole}
-
-pub is-none : (o : Option Fault) → isNone o ≡ true → o ≡ none
-is-none none e = refl
-is-none (some f) e = cc
 
 -- ---- rows behind the first i
 

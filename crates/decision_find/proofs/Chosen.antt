@@ -9,6 +9,7 @@ use Prim.Native.Nat.{ℕ, _+_, _≤_}
 use native.Mathlib.Omega.{arith}
 use lib.ListN.{length}
 use Rattle.numbers.specs.Lists.{every, OnSome, isNone}
+use Rattle.numbers.proofs.Options.{is-none}
 use Rattle.numbers.proofs.Keeps.{every-imp, every-map}
 use Rattle.rows.specs.declared.Table.{Table}
 use Rattle.rows.specs.Fields.{faults}
@@ -20,7 +21,6 @@ use Rattle.decision_steps.specs.Bytes.{Whole}
 use Rattle.decision_find.specs.declared.Found.{Found}
 use Rattle.decision_find.specs.declared.Found.the-variants.{Row, Nothing}
 use Rattle.decision_find.specs.Found.{bytesAt, Lies, FoundIn, Chosen}
-use Rattle.decision_find.proofs.Backwards.{is-none}
 
 -- ---- whole rows
 

@@ -23,8 +23,9 @@ use Rattle.table_update.proofs.Existence.{placeOf, place-sought, after, after-e
 use Rattle.edit_rules.specs.declared.Edited.{Edited}
 use Rattle.edit_rules.specs.declared.Edited.the-variants.{Done, Barred, Faulty}
 use Rattle.edit_rules.specs.Edits.{Outcome, editOf, shapeOf, edit, isContext}
+use Rattle.edit_rules.proofs.Outcomes.{faulty-done}
 use Rattle.edit_rows.specs.Promise.{Edits, lengthIn}
-use Rattle.edit_rows.proofs.Stores.{faulty-done, answerAt, place-refused, place-asked, place-done}
+use Rattle.edit_rows.proofs.Stores.{answerAt, place-refused, place-asked, place-done}
 
 pub record Made (f : Tables → Outcome) (w : List ℕ) : Type 0 where
   pub left : List ℕ

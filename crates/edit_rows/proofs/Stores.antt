@@ -50,7 +50,8 @@ use Rattle.edit_rules.specs.Edits.{Outcome, outcome, editedNumber, editOf, shap
 use Rattle.edit_rules.specs.TableRows.{rowIndex, rowsOf}
 use Rattle.edit_rules.specs.Storage.{storageIn, storageAt, StorageKnown, placeFault, placed, fullAt}
 use Rattle.edit_rules.proofs.Storages.{storage-room, storage-at, held-storage}
-use Rattle.edit_rules.proofs.Outcomes.{afterwards, judged, changed, comes, tables, tables-ext, rows-ascend, rows-in, key-whole, key-of, edit-change}
+use Rattle.edit_rules.proofs.Outcomes.{afterwards, judged, faulty-done, changed, comes, tables, tables-ext, rows-ascend, rows-in, key-whole, key-of}
+use Rattle.edit_rules.proofs.Outcomes.{edit-change}
 use Rattle.edit_rules.proofs.Keys.{key-part}
 use Rattle.edit_rows.specs.Promise.{answered, left, Edits, lengthIn}
 
@@ -151,9 +152,6 @@ stays : (new old : Tables) (r : Edited) → (r ≡ Done → ⊥) → afterwards 
 stays new old Done m = absurd (m refl)
 stays new old (Barred c) m = refl
 stays new old (Faulty g) m = refl
-
-pub faulty-done : {g : Fault} → Faulty g ≡ Done → ⊥
-faulty-done e = let z : _≡_ {A = ℕ} 0 1 = cc e in omega arith
 
 -- by the numbers of the variants
 pub not-done : (r : Edited) → OneOf (1 ∷ 2 ∷ []) (tagOf the-type r) → r ≡ Done → ⊥

@@ -56,6 +56,9 @@ afterwards new old (Faulty f) = old
 abbrev pub judged : Tables → Tables → Edited → Outcome
 judged new old r = outcome r (afterwards new old r)
 
+pub faulty-done : {f : Fault} → Faulty f ≡ Done → ⊥
+faulty-done e = let z : _≡_ {A = ℕ} 0 1 = cc e in omega arith
+
 -- ---- the storage rules: where no row is held, those of a volatile row
 
 storage-same : (y : Shape) (held : Bool) {old old′ new new′ : ℕ} → (held ≡ true → old ≡ old′) → (y ≡ Row → new ≡ new′)

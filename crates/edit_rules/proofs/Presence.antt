@@ -14,6 +14,7 @@ use Rattle.answers.specs.declared.Fault.the-variants.{TableFull, RowAbsent, Sto
 use Rattle.numbers.specs.Lists.{isNone}
 use Rattle.numbers.specs.Order.{same}
 use Rattle.numbers.proofs.Bools.{split, clash, and-left}
+use Rattle.numbers.proofs.Options.{is-none, map-none}
 use Rattle.numbers.proofs.Orders.{same-refl}
 use Rattle.rows.specs.declared.Shape.the-variants.{Row}
 use Rattle.rows.specs.declared.Table.{Table}
@@ -30,22 +31,7 @@ use Rattle.edit_rules.specs.TableRows.{RowOf, rowOf, rowIndex, storageOf
 use Rattle.edit_rules.specs.Edits.{Edit, shapeOf, indexOfEdit, rowHeld, isCreate, storageLets, presenceFault, heldFault, rowFault, isFull}
 use Rattle.edit_rules.specs.Edits.{applied, editedNumber, outcome, settled, faulted, edit}
 use Rattle.edit_rules.specs.Presence.{Stands, CreateApartFromChange}
-use Rattle.edit_rules.proofs.Outcomes.{row-index}
-
--- ---- answers that differ
-
-faulty-done : {f : Fault} → Faulty f ≡ Done → ⊥
-faulty-done e = let z : _≡_ {A = ℕ} 0 1 = cc e in omega arith
-
--- ---- a row held or not
-
-none-is : {A : Type 0} (o : Option A) → isNone o ≡ true → o ≡ none
-none-is none e = refl
-none-is (some x) e = cc
-
-map-none : {A B : Type 0} (f : A → B) (o : Option A) → isNone (Option·map f o) ≡ isNone o
-map-none f none = refl
-map-none f (some x) = refl
+use Rattle.edit_rules.proofs.Outcomes.{faulty-done, row-index}
 
 -- ---- an edit that is answered Done is applied
 
@@ -160,13 +146,13 @@ module _ (strict : Bool) (ts : Tables) (e : Edit) where
   create-adds q d =
       let s : shapeOf (e .operation) ≡ Row = ap shapeOf q in
       split (isNone (rowHeld ts e))
-      (λ h. let n = none-is (rowHeld ts e) h in (n, rw (done-rows d) (put-stands ts e s), rw (done-rows d) (one-more ts e s n)))
+      (λ h. let n = is-none (rowHeld ts e) h in (n, rw (done-rows d) (put-stands ts e s), rw (done-rows d) (one-more ts e s n)))
       (λ h. absurd (faulty-done (sym (ap (λ o. o .answer) (create-held q h)) ∙ d)))
 
   change-replaces : e .operation ≡ Change → edit strict ts e .answer ≡ Done → (isNone (rowHeld ts e) ≡ false) × Stands ts e (edit strict ts e .rows)
   change-replaces q d =
       split (isNone (rowHeld ts e))
-      (λ h. absurd (faulty-done (sym (ap (λ o. o .answer) (change-absent q (none-is (rowHeld ts e) h))) ∙ d)))
+      (λ h. absurd (faulty-done (sym (ap (λ o. o .answer) (change-absent q (is-none (rowHeld ts e) h))) ∙ d)))
       (λ h. (h, rw (done-rows d) (put-stands ts e (ap shapeOf q))))
 
   pub row-nine : eqb (editedNumber (faulted (rowFault strict ts e))) 9 ≡ false

@@ -5,7 +5,7 @@
 use mathlib.Core.Path.{_≡_, refl, sym, ap, subst, _∙_}
 use mathlib.Core.Bool.{Bool, true, false, cond}
 use mathlib.Core.List.{List}
-use mathlib.Core.Option.{Option, none, some}
+use mathlib.Core.Option.{none, some}
 use Prim.Native.Nat.{ℕ}
 use native.Mathlib.Omega.{arith}
 use Rattle.answers.specs.declared.Decision.{Decision}
@@ -13,6 +13,7 @@ use Rattle.answers.specs.declared.Decision.the-variants.{Allowed, Refused}
 use Rattle.answers.specs.declared.Fault.{Fault}
 use Rattle.answers.specs.declared.Fault.the-variants.{NotSound, OutOfRange, ContextTable}
 use Rattle.numbers.specs.Lists.{isNone}
+use Rattle.numbers.proofs.Options.{is-none}
 use Rattle.numbers.proofs.Bools.{split, cond-false, and-false-left, and-false-right}
 use Rattle.rows.specs.declared.Table.{Table}
 use Rattle.rows.specs.Fields.{faults, span}
@@ -41,10 +42,6 @@ pub legal-is : (c : Operation) (t : Table) (bytes : List ℕ) → legalEdit (edi
 unfolding legalEdit
 legal-is c t bytes = refl
 
-none-is : (o : Option Fault) → isNone o ≡ true → o ≡ none
-none-is none e = refl
-none-is (some f) e = cc
-
 -- ---- what both kinds of call begin with
 
 ready-is : (a b : Bool) (d : Layout) (n : ℕ) {l : Layout} {k : ℕ} → Ready l k ≡ cond a (cond b (Ready d n) (Unready OutOfRange)) (Unready NotSound)
@@ -59,7 +56,7 @@ module _ (c : Operation) (t : Table) (w bytes : List ℕ) where
   ready e = ready-is (isSound w) (legalEdit (editOf c t bytes)) (layoutOf w) (span (keyFields t) bytes) e
 
   pub ready-whole : legalEdit (editOf c t bytes) ≡ true → faults (fieldsOf (shapeOf c) t) bytes ≡ none
-  ready-whole m = none-is (faults (fieldsOf (shapeOf c) t) bytes) (sym (legal-is c t bytes) ∙ m)
+  ready-whole m = is-none (faults (fieldsOf (shapeOf c) t) bytes) (sym (legal-is c t bytes) ∙ m)
 
   pub prepared-unsound : isSound w ≡ false → Unready NotSound ≡ prepared w c t bytes
   prepared-unsound a = sym (cond-false _ _ a)

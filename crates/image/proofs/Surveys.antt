@@ -13,6 +13,7 @@ use borrow.Author.Tests.{lt-ltb, le-ltb, lt-leb, leb-true, eq-eqb, ne-eqb, eqb-t
 use Rattle.answers.specs.declared.Fault.{Fault}
 use Rattle.answers.specs.declared.Fault.the-variants.{NotSound, OutOfRange, Torn, TableFull}
 use Rattle.numbers.specs.Lists.{isNone}
+use Rattle.numbers.proofs.Options.{is-none}
 use Rattle.numbers.proofs.Bools.{clash, and-left, and-right}
 use Rattle.rows.specs.Fields.{orElse}
 use Rattle.rows.specs.Tables.{Tables}
@@ -40,10 +41,6 @@ laid-none (some f) d e = (cc, cc)
 pub bad-some : (o : Option Fault) (d : Layout) {f : Fault} → Bad f ≡ surveyed o d → o ≡ some f
 bad-some none d e = cc
 bad-some (some g) d e = cc
-
-is-none : (o : Option Fault) → isNone o ≡ true → o ≡ none
-is-none none e = refl
-is-none (some f) e = cc
 
 -- ---- lengths that fit
 

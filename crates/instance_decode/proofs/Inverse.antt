@@ -15,6 +15,7 @@ use Rattle.answers.specs.declared.Written.{Written}
 use Rattle.answers.specs.declared.Written.the-variants.{Length}
 use Rattle.numbers.specs.Lists.{isNone}
 use Rattle.numbers.specs.Order.{begins}
+use Rattle.numbers.proofs.Options.{is-none}
 use Rattle.numbers.proofs.Bools.{and-left, and-right}
 use Rattle.numbers.proofs.Keeps.{find-is}
 use Rattle.numbers.proofs.Orders.{begins-true}
@@ -112,11 +113,7 @@ module _ (t : Table) (column : ℕ) (key out out' : List ℕ) (n : ℕ) (e : Enc
   unfolding encodeFault
   encodable =
       let a = cond-none (lists t column && isNone (faults (keyFields t) key)) _ _ (done .0) .0 in
-      record { listed = and-left (lists t column) _ a; sound = none-is (faults (keyFields t) key) (and-right (lists t column) _ a) }
-    where
-      none-is : (o : Option Fault) → isNone o ≡ true → o ≡ none
-      none-is none q = refl
-      none-is (some f) q = cc
+      record { listed = and-left (lists t column) _ a; sound = is-none (faults (keyFields t) key) (and-right (lists t column) _ a) }
 
   front : take n out' ≡ whole
   unfolding whole

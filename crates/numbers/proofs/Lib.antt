@@ -1,4 +1,5 @@
 pub mod Bools
+pub mod Options
 pub mod Orders
 pub mod Keeps
 pub mod Tops

@@ -16,9 +16,10 @@ use Rattle.table_update.proofs.Stores.{rowKey}
 use Rattle.edit_rules.specs.declared.Edited.the-variants.{Done}
 use Rattle.edit_rules.specs.Edits.{shapeOf}
 use Rattle.edit_rules.specs.Storage.{storageIn, storageAt, placeFault, placed, fullAt}
+use Rattle.edit_rules.proofs.Outcomes.{faulty-done}
 use Rattle.edit_rows.specs.Promise.{lengthIn}
 use Rattle.edit_rows.proofs.Stores.{inside-laid, rising-laid, views-laid, sought-laid, key-within}
-use Rattle.edit_rows.proofs.Stores.{faulty-done, not-done, placed-judged, placed-full, placed-room}
+use Rattle.edit_rows.proofs.Stores.{not-done, placed-judged, placed-full, placed-room}
 use Rattle.edit_rows.proofs.Stores.{taken-within, storage-known, place-refused, place-asked, place-done}
 use Rattle.edit_rows.proofs.edit.Statement.{statement}
 use Rattle.edit_rows.proofs.edit.Tie as tie

@@ -12,7 +12,8 @@ use Rattle.edit_rules.specs.declared.Edited.{Edited}
 use Rattle.edit_rules.specs.declared.Edited.the-variants.{Done}
 use Rattle.edit_rules.specs.Edits.{shapeOf, faulted, presenceFault}
 use Rattle.edit_rules.specs.Storage.{storageIn, storageAt, mayEdit}
-use Rattle.edit_rows.proofs.Stores.{faulty-done, not-done}
+use Rattle.edit_rules.proofs.Outcomes.{faulty-done}
+use Rattle.edit_rows.proofs.Stores.{not-done}
 use Rattle.edit_rows.proofs.judge_place.Statement.{statement}
 use Rattle.edit_rows.proofs.judge_place.Tie as tie
 
