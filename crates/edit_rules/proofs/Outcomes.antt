@@ -37,8 +37,8 @@ use Rattle.table_update.proofs.Stores.{rowKey}
 use Rattle.edit_rules.specs.declared.Edited.{Edited}
 use Rattle.edit_rules.specs.declared.Edited.the-variants.{Done, Barred, Faulty}
 use Rattle.edit_rules.specs.TableRows.{volatile, rowOf, rowIndex, storageOf, rowsOf, tablesOf, withRows}
-use Rattle.edit_rules.specs.Edits.{Outcome, outcome, editOf, shapeOf, isCreate, indexOfEdit, mayPut, mayRemove, storageLets, presenceFault, heldFault}
-use Rattle.edit_rules.specs.Edits.{rowFault, isFull, rowsAfter, applied, settled, faulted, edit, isContext}
+use Rattle.edit_rules.specs.Edits.{Edit, Outcome, outcome, editOf, shapeOf, isCreate, indexOfEdit, mayPut, mayRemove, storageLets, presenceFault}
+use Rattle.edit_rules.specs.Edits.{heldFault, rowFault, isFull, rowsAfter, applied, settled, faulted, edit, isContext}
 use Rattle.edit_rules.specs.Storage.{storageIn, mayEdit, placeFault, placed, fullAt}
 use Rattle.edit_rules.proofs.Storages.{row-storage, whole-held, storageFound}
 
@@ -135,6 +135,10 @@ row-index Context = context-index
 row-index Mapping = mapping-index
 row-index Access = access-index
 row-index View = view-index
+
+pub own-index : (e : Edit) → rowIndex (e .table) (rowOf (e .table) (e .bytes)) ≡ indexOfEdit e
+unfolding indexOfEdit
+own-index e = row-index (e .table) (e .bytes)
 
 -- rows ascend as their bytes do
 pub rows-ascend : (t : Table) (rs : List (List ℕ)) → Ascends (indexOf t) rs → Ascends (rowIndex t) (map (rowOf t) rs)

@@ -31,7 +31,7 @@ use Rattle.edit_rules.specs.TableRows.{RowOf, rowOf, rowIndex, storageOf
 use Rattle.edit_rules.specs.Edits.{Edit, shapeOf, indexOfEdit, rowHeld, isCreate, storageLets, presenceFault, heldFault, rowFault, isFull}
 use Rattle.edit_rules.specs.Edits.{applied, editedNumber, outcome, settled, faulted, edit}
 use Rattle.edit_rules.specs.Presence.{Stands, CreateApartFromChange}
-use Rattle.edit_rules.proofs.Outcomes.{faulty-done, row-index}
+use Rattle.edit_rules.proofs.Outcomes.{faulty-done, own-index}
 
 -- ---- an edit that is answered Done is applied
 
@@ -54,25 +54,26 @@ module _ (ts : Tables) (e : Edit) (q : shapeOf (e .operation) ≡ Row) where
   unfolding applied
   put-rows = own-table (e .table) ts _ ∙ rw q
 
-  own-index : rowIndex (e .table) row ≡ indexOfEdit e
-  unfolding indexOfEdit
-  own-index = row-index (e .table) (e .bytes)
-
   put-at : (i : List ℕ) → rowAt (rowIndex (e .table)) i (rowsOf (e .table) (applied ts e))
       ≡ cond (same i (indexOfEdit e)) (some row) (rowAt (rowIndex (e .table)) i (rowsOf (e .table) ts))
   put-at i =
       ap (rowAt (rowIndex (e .table)) i) put-rows
       ∙ rowAt-put (rowIndex (e .table)) i row (rowsOf (e .table) ts)
-      ∙ ap (λ j. cond (same i j) (some row) (rowAt (rowIndex (e .table)) i (rowsOf (e .table) ts))) own-index
+      ∙ ap (λ j. cond (same i j) (some row) (rowAt (rowIndex (e .table)) i (rowsOf (e .table) ts))) (own-index e)
+
+  other-tables : applied ts e ≡ withRows (e .table) ts (rowsOf (e .table) (applied ts e))
+  unfolding applied
+  other-tables = ap (withRows (e .table) ts) (sym (own-table (e .table) ts _))
 
   put-stands : Stands ts e (applied ts e)
   put-stands = record {
     own = put-at (indexOfEdit e) ∙ rw (same-refl (indexOfEdit e));
     others = λ i n. put-at i ∙ rw n;
+    elsewhere = other-tables;
   }
 
   one-more : rowHeld ts e ≡ none → length (rowsOf (e .table) (applied ts e)) ≡ suc (length (rowsOf (e .table) ts))
-  one-more h = ap length put-rows ∙ put-more (rowIndex (e .table)) row (rowsOf (e .table) ts) (rw own-index h)
+  one-more h = ap length put-rows ∙ put-more (rowIndex (e .table)) row (rowsOf (e .table) ts) (rw (own-index e) h)
 
 -- ---- by the row held
 

@@ -84,7 +84,7 @@ storageLets Key (some old) new = mayRemove old
 
 -- ---- an edit judged by the row held, if one is: 18 or 10, then 11
 
--- "Create adds a row whose key isn't held, change replaces one that is"; a removal is of a row that is held
+-- "create adds a row whose key isn't held, change replaces one that is"; a removal is of a row that is held
 abbrev pub presenceFault : Operation → Bool → Option Fault
 presenceFault o held = cond (isCreate o) (cond held (some RowHeld) none) (cond held none (some RowAbsent))
 

@@ -12,14 +12,15 @@ use Rattle.rows.specs.Tables.{Tables}
 use Rattle.table_update.specs.Tables.{rowAt}
 use Rattle.edit_rules.specs.declared.Edited.the-variants.{Done, Faulty}
 use Rattle.edit_rules.specs.declared.Operation.the-variants.{Create, Change}
-use Rattle.edit_rules.specs.TableRows.{rowOf, rowIndex, rowsOf}
+use Rattle.edit_rules.specs.TableRows.{rowOf, rowIndex, rowsOf, withRows}
 use Rattle.edit_rules.specs.Edits.{Edit, isCreate, indexOfEdit, rowHeld, outcome, edit}
 
--- the row handed stands at its index; at every other index of its table the row that was there, or none
+-- the row handed stands at its index; at every other index of its table the row that was there, or none; the other tables are as they were
 pub record Stands (ts : Tables) (e : Edit) (after : Tables) : Type 0 where
   pub own : rowHeld after e ≡ some (rowOf (e .table) (e .bytes))
   pub others : (i : List ℕ) → same i (indexOfEdit e) ≡ false
       → rowAt (rowIndex (e .table)) i (rowsOf (e .table) after) ≡ rowAt (rowIndex (e .table)) i (rowsOf (e .table) ts)
+  pub elsewhere : after ≡ withRows (e .table) ts (rowsOf (e .table) after)
 
 pub record CreateApartFromChange : Type 0 where
   -- "create adds a row whose key isn't held, ..

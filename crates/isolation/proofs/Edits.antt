@@ -22,7 +22,7 @@ use Rattle.edit_rules.specs.declared.Edited.{Edited}
 use Rattle.edit_rules.specs.declared.Edited.the-variants.{Done, Barred, Faulty}
 use Rattle.edit_rules.specs.TableRows.{RowOf, rowOf, rowIndex, storageOf, rowsOf, withRows}
 use Rattle.edit_rules.specs.Edits.{Edit, Outcome, outcome, shapeOf, isCreate, indexOfEdit, rowHeld, heldFault, rowFault, isFull, rowsAfter, applied, settled}
-use Rattle.edit_rules.proofs.Outcomes.{row-index}
+use Rattle.edit_rules.proofs.Outcomes.{own-index}
 use Rattle.edits.specs.Calls.{editedNumber}
 use Rattle.isolation.specs.Isolation.{Circle, rowIn, ofCircle, implies, handsRow, mapsToGroup, givesChosen, keepsToGroup, keepsToViews}
 use Rattle.isolation.proofs.Tables.{length-keep, rowAt-keep, keep-after-in, keep-after-out, ascends-after, every-after}
@@ -69,10 +69,6 @@ module _ (w : Circle) where
     unfolding indexOfEdit
     at-index h x q = key-same w (e .table) (e .bytes) x q ∙ h
 
-    own-index : rowIndex (e .table) (rowOf (e .table) (e .bytes)) ≡ indexOfEdit e
-    unfolding indexOfEdit
-    own-index = row-index (e .table) (e .bytes)
-
     -- ---- of the circle
 
     module _ (h : of ≡ true) where
@@ -108,7 +104,7 @@ module _ (w : Circle) where
             let after = rowsAfter (rowIndex t) (shapeOf (e .operation)) (rowOf t (e .bytes)) (indexOfEdit e) in
             ap (withRows t (circleRows w ts))
             (ap after (rows-circle w t ts)
-            ∙ sym (keep-after-in (rowIndex t) (rowIn w t) (shapeOf (e .operation)) _ (indexOfEdit e) (rowsOf t ts) own-index (at-index h)
+            ∙ sym (keep-after-in (rowIndex t) (rowIn w t) (shapeOf (e .operation)) _ (indexOfEdit e) (rowsOf t ts) (own-index e) (at-index h)
             (orderly-at w t i .0)))
             ∙ with-circle w t ts (after (rowsOf t ts))
 
@@ -126,7 +122,7 @@ module _ (w : Circle) where
         let t = e .table in
         sym (with-circle w t ts _)
         ∙ ap (withRows t (circleRows w ts))
-        (keep-after-out (rowIndex t) (rowIn w t) (shapeOf (e .operation)) _ (indexOfEdit e) (rowsOf t ts) own-index (at-index h))
+        (keep-after-out (rowIndex t) (rowIn w t) (shapeOf (e .operation)) _ (indexOfEdit e) (rowsOf t ts) (own-index e) (at-index h))
         ∙ with-circle w t ts (rowsOf t ts)
         ∙ ap (circleRows w) (own-rows t ts)
 
@@ -148,7 +144,7 @@ module _ (w : Circle) where
         let m : mapsToGroup w (e .table) r ≡ true = implied (handsRow e) _ (and-left _ _ g) h in
         let c : givesChosen w (e .table) r ≡ true = implied (handsRow e) _ (and-right (keepsToGroup w e) _ g) h in
         or-right (not (rowIn w (e .table) r)) (and-both m c))
-        (λ o. rw (at-index o r (sym own-index)))
+        (λ o. rw (at-index o r (sym (own-index e))))
 
     pub settled-orderly : fits ≡ true → Orderly w ts → (v : Edited) → Orderly w (settled v ts e .rows)
     unfolding applied
