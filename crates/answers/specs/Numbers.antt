@@ -6,7 +6,7 @@ use Rattle.answers.specs.declared.Decision.{Decision}
 use Rattle.answers.specs.declared.Decision.the-variants.{Allowed, Refused}
 use Rattle.answers.specs.declared.Fault.{Fault}
 use Rattle.answers.specs.declared.Fault.the-variants.{NotSound, OutOfRange, TableFull, RowAbsent, StorageForbids, ContextTable, NotAnInstance, Torn}
-use Rattle.answers.specs.declared.Fault.the-variants.{NotAscending, TooShort, RowHeld}
+use Rattle.answers.specs.declared.Fault.the-variants.{NotAscending, TooShort, RowHeld, NotASet}
 use Rattle.answers.specs.declared.Answer.{Answer}
 use Rattle.answers.specs.declared.Answer.the-variants.{Decided, Faulty}
 use Rattle.answers.specs.declared.Written.{Written}
@@ -37,6 +37,7 @@ faultNumber Torn = 14
 faultNumber NotAscending = 15
 faultNumber TooShort = 16
 faultNumber RowHeld = 18
+faultNumber NotASet = 19
 
 abbrev pub answerNumber : Answer → ℕ
 answerNumber (Decided d) = decisionNumber d

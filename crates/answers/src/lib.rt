@@ -31,6 +31,7 @@ pub enum Fault {
     NotAscending,
     TooShort,
     RowHeld,
+    NotASet,
 }
 
 // The answer of a decision request.
@@ -84,6 +85,7 @@ pub fn fault_number(f: Fault) -> u32
         Fault::NotAscending => 15,
         Fault::TooShort => 16,
         Fault::RowHeld => 18,
+        Fault::NotASet => 19,
     }
 }
 

@@ -1,18 +1,38 @@
--- Laws of the line that is printed: the number and a space stand in front and are short, so that the answer fits behind them, and a newline
--- behind it. Put part by part, they are the line. Assumes nothing.
-use mathlib.Core.Path.{_≡_}
+-- Laws of what a line asks for; and of the line that is printed: the number and a space stand in front and are short, so that the answer fits behind
+-- them, and a newline behind it. Put part by part, they are the line. Assumes nothing.
+use mathlib.Core.Path.{_≡_, _∙_}
 use mathlib.Core.List.{List, [], _∷_, _++_}
-use mathlib.Core.Option.{Option}
-use Prim.Native.Nat.{ℕ, _+_, _≤_}
+use mathlib.Core.Option.{Option, none, some, Option·elim}
+use Prim.Native.Nat.{ℕ, _+_, _≤_, _<_}
 use native.Mathlib.Omega.{arith}
 use lib.ListN.{length, length-append}
+use Rattle.text_words.specs.Words.{longest}
 use Rattle.text_values.specs.Texts.{decimalText, Puts}
 use Rattle.text_values.proofs.Digits.{length-decimal}
 use Rattle.text_values.proofs.Puts.{Onward, start, step, last, kept}
-use Rattle.call_verbs.specs.Calls.{Asked}
+use Rattle.call_verbs.specs.Calls.{Asked, lineSaid}
+use Rattle.call_verbs.proofs.Calls.{long-line}
+use Rattle.set_words.specs.SetWords.{setSaid, setWords}
+use Rattle.set_words.proofs.Sets.{set-long}
 use Rattle.call_answers.specs.Answers.{Room}
 use Rattle.call_plays.specs.Plays.{PutsPlay}
-use Rattle.call_lines.specs.Lines.{lineRoom, lineText, PutsLine}
+use Rattle.call_lines.specs.Lines.{lineAsks, lineRoom, lineText, PutsLine}
+
+-- ---- what a line asks for
+
+module _ (line : List ℕ) where
+  pub asks-set : {ws : List (List ℕ)} → setWords line ≡ some ws → lineAsks line ≡ setSaid ws
+  unfolding lineAsks Option·elim
+  asks-set e = rw e
+
+  pub asks-other : setWords line ≡ none → lineAsks line ≡ lineSaid line
+  unfolding lineAsks Option·elim
+  asks-other e = rw e
+
+  pub long-asks : longest < length line → lineAsks line ≡ none
+  long-asks h = asks-other (set-long line h) ∙ long-line line h
+
+-- ---- what is printed
 
 line-length : (number : ℕ) (text : List ℕ) → length (lineText number text) ≤ 22 + length text
 line-length number text =

@@ -1,12 +1,20 @@
--- The line that is printed for a line played. Assumes nothing.
+-- What a line asks for, and the line that is printed for it. Assumes nothing.
 use mathlib.Core.List.{List, [], _∷_, _++_}
-use mathlib.Core.Option.{Option}
+use mathlib.Core.Option.{Option, Option·elim}
 use Prim.Native.Nat.{ℕ, _+_, _≤_}
 use lib.ListN.{length}
 use Rattle.text_values.specs.Texts.{decimalText, Puts}
-use Rattle.call_verbs.specs.Calls.{Asked}
+use Rattle.call_verbs.specs.Calls.{Asked, lineSaid}
+use Rattle.set_words.specs.SetWords.{setSaid, setWords}
 use Rattle.call_answers.specs.Answers.{answerRoom}
 use Rattle.call_plays.specs.Plays.{Plays}
+
+-- ---- what a line asks for: a set of edits, or what the words in front name
+
+unfoldable pub lineAsks : List ℕ → Option Asked
+lineAsks line = Option·elim (setWords line) (lineSaid line) setSaid
+
+-- ---- what is printed
 
 -- room for it
 abbrev pub lineRoom : ℕ

@@ -4,7 +4,7 @@ use mathlib.Core.List.{List}
 use mathlib.Core.Option.{Option, some}
 use Prim.Native.Nat.{ℕ}
 use Rattle.edit_rules.specs.Edits.{Caller}
-use Rattle.edits.specs.Does.{Call, ask, owner, by, walk, Reply, walked, replyNumber, Does, asks, owns, acts, walks}
+use Rattle.calls.specs.Does.{Call, ask, owner, by, bySet, walk, Reply, walked, replyNumber, Does, asks, owns, acts, actsAll, walks}
 use Rattle.text_values.specs.Texts.{decimalText, Puts}
 use Rattle.call_verbs.specs.Calls.{Asked, calls}
 use Rattle.call_words.specs.Reading.{Answers}
@@ -18,12 +18,14 @@ abbrev Numbered : Call → Type 0
 Numbered (ask q) = Unit {0}
 Numbered (owner e) = Unit {0}
 Numbered (by c e) = Unit {0}
+Numbered (bySet c es) = ⊥
 Numbered (walk c identifier) = ⊥
 
 number-text : {found after : List ℕ} {c : Call} {reply : Reply} → Numbered c → Does found c reply after → decimalText (replyNumber reply) ≡ replyText reply
 number-text n (asks d) = refl
 number-text n (owns d) = refl
 number-text n (acts d) = refl
+number-text n (actsAll d) = absurd n
 number-text n (walks d) = absurd n
 
 module _ {found : List ℕ} {at : ℕ} {w out : List ℕ} {r : ℕ} where

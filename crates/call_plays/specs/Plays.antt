@@ -1,7 +1,7 @@
 -- What playing a line does: what it is read as, the store afterwards, and the text of the answer. Of a call on a store it is what `Does` says, the
 -- proposition of the isolation theorem. Assumes nothing.
 use mathlib.Core.Path.{_≡_}
-use mathlib.Core.List.{List}
+use mathlib.Core.List.{List, _∷_, _++_}
 use mathlib.Core.Option.{Option, none, some}
 use Prim.Native.Nat.{ℕ}
 use Rattle.answers.specs.declared.Fault.the-variants.{OutOfRange}
@@ -9,7 +9,7 @@ use Rattle.image.specs.Store.{held}
 use Rattle.decision_match.specs.Matches.{viewChoice, accessChoice}
 use Rattle.explain_rules.specs.Explanation.{explanation}
 use Rattle.instance_decode.specs.Decoding.{readInstance}
-use Rattle.edits.specs.Does.{Call, Reply, decided, edited, walked, replyNumber, Does}
+use Rattle.calls.specs.Does.{Call, Reply, decided, edited, setEdited, walked, replyNumber, Does}
 use Rattle.text_values.specs.Texts.{decimalText}
 use Rattle.call_verbs.specs.Calls.{Asked, calls, encodes, decodes, images, matchesView, matchesAccess, explains}
 use Rattle.call_answers.specs.Answers.{faultText, instanceText, decodedText, imageTextOf, Told}
@@ -22,10 +22,15 @@ pub record Tells (told found after text : List ℕ) : Type 0 where
   pub text-is : text ≡ told
   pub store-stays : after ≡ found
 
--- what is told of a reply: of a walk all that it hands back, of any other call its number
+-- an answer's number, a space, and the position that it carries
+abbrev pub positionText : (number position : ℕ) → List ℕ
+positionText number position = decimalText number ++ (32 ∷ decimalText position)
+
+-- what is told of a reply: of a set its position too, of a walk all that it hands back, of any other call its number
 abbrev pub replyText : Reply → List ℕ
 replyText (decided a) = decimalText (replyNumber (decided a))
 replyText (edited r) = decimalText (replyNumber (edited r))
+replyText (setEdited r) = positionText (replyNumber (setEdited r)) (r .position)
 replyText (walked w) = walkText w
 
 -- a call on a store: what it does, and its reply

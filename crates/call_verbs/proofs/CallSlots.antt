@@ -7,7 +7,7 @@ use native.Mathlib.Omega.{arith}
 use lib.ListN.{length, getD}
 use Rattle.rows.specs.declared.Table.{Table}
 use Rattle.edit_rules.specs.Edits.{Caller, editOf, callerOf}
-use Rattle.edits.specs.Does.{Call, ask, owner, by, walk}
+use Rattle.calls.specs.Does.{Call, ask, owner, by, walk}
 use Rattle.text_rows.specs.declared.Slot.{Slot}
 use Rattle.line_fields.specs.Kinds.{Value, valueAt}
 use Rattle.line_fields.specs.Slots.{side, inParts, kindIn, slotIn, Holds}

@@ -3,7 +3,7 @@ use mathlib.Core.List.{List}
 use mathlib.Core.Option.{Option, none, some}
 use Prim.Native.Nat.{ℕ}
 use Rattle.edit_rules.specs.Edits.{Edit, Caller, editOf, callerOf}
-use Rattle.edits.specs.Does.{Call, ask, owner, by, walk}
+use Rattle.calls.specs.Does.{Call, ask, owner, by, walk}
 use Rattle.text_rows.specs.declared.Slot.{Slot}
 use Rattle.line_fields.specs.Requests.{requestIn}
 use Rattle.line_fields.specs.Slots.{slotIn, partIn, numberIn}

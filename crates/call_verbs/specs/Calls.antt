@@ -6,7 +6,7 @@
 --     match view NAME VARIABLE                   match access GROUP CONTEXT MODEL LEVEL
 --
 -- The words in front name the kinds of the fields behind them (`line_fields/specs/Kinds.antt`), and the meaning picks their values by place.
--- Assumes nothing.
+-- The line `set` is read apart (`set_words/specs/SetWords.antt`). Assumes nothing.
 use mathlib.Core.Bool.{cond}
 use mathlib.Core.List.{List, [], _∷_}
 use mathlib.Core.Option.{Option, none, some, bind}
@@ -19,7 +19,7 @@ use Rattle.rows.specs.declared.Table.{Table}
 use Rattle.rows.specs.declared.Table.the-variants.{Access, View}
 use Rattle.decision_steps.specs.Request.{Request}
 use Rattle.edit_rules.specs.Edits.{Caller, callerOf}
-use Rattle.edits.specs.Does.{Call, ask, owner, by, walk}
+use Rattle.calls.specs.Does.{Call, ask, owner, by, walk}
 use Rattle.text_words.specs.Words.{longest, words}
 use Rattle.text_rows.specs.TableWords.{tableWord}
 use Rattle.line_fields.specs.declared.Kind.{Kind}
@@ -95,7 +95,7 @@ kindsOf Walk = Number ∷ Name ∷ Number ∷ Identifier ∷ []
 kindsOf Explain = requestKinds
 kindsOf Unknown = []
 
--- a call on a store (`edits/specs/Does.antt`), an instance of a table, a column and a key, an identifier that may be one, the image, the row
+-- a call on a store (`calls/specs/Does.antt`), an instance of a table, a column and a key, an identifier that may be one, the image, the row
 -- of a view that decides on a variable, the access row that is chosen, an answer and the rows behind it
 pub data Asked : Type 0 where
   calls : Call → Asked

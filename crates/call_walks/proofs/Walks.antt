@@ -18,7 +18,7 @@ use Rattle.walk_rules.specs.declared.Walked.the-variants.{Next, EndOfMibView, D
 use Rattle.walk_rules.specs.Numbers.{walkedNumber}
 use Rattle.walk_rules.specs.Walk.{Walks, handed, LegalKey}
 use Rattle.walk_rules.proofs.Walked.{the-type}
-use Rattle.edits.specs.Does.{walks}
+use Rattle.calls.specs.Does.{walks}
 use Rattle.text_values.specs.Texts.{decimalText, dottedText}
 use Rattle.call_answers.specs.Answers.{columnKeyOf, answerRoom, Told}
 use Rattle.call_answers.proofs.Instances.{dotted-short, column-key-short}

@@ -7,7 +7,7 @@ use Rattle.walk_rules.specs.declared.Walked.{Walked}
 use Rattle.walk_rules.specs.declared.Walked.the-variants.{Next, EndOfMibView, Denied, Faulty}
 use Rattle.walk_rules.specs.Numbers.{walkedNumber}
 use Rattle.walk_rules.specs.Walk.{Walk}
-use Rattle.edits.specs.Does.{walk, walked, Does}
+use Rattle.calls.specs.Does.{walk, walked, Does}
 use Rattle.text_values.specs.Texts.{decimalText, dottedText}
 use Rattle.call_answers.specs.Answers.{columnKeyOf, Told}
 

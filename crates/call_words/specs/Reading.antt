@@ -6,7 +6,7 @@ use mathlib.Core.Option.{Option}
 use Prim.Native.Nat.{ℕ, _≤_, _<_}
 use lib.Dec.{leb}
 use lib.ListN.{length}
-use Rattle.edits.specs.Does.{Call, Reply, replyNumber, Does}
+use Rattle.calls.specs.Does.{Call, Reply, replyNumber, Does}
 use Rattle.text_words.specs.Words.{longest, words}
 use Rattle.line_fields.specs.Kinds.{Value, valueAt}
 use Rattle.line_fields.specs.Slots.{lineRoom, side, inParts, kindIn, slotIn, Holds}

@@ -4,7 +4,7 @@ use line_fields::MOST_FIELDS;
 use text_rows::Slot;
 use text_words::LONGEST_LINE;
 ghost use mathlib.Core.Path.{_≡_};
-ghost use Rattle.edits.specs.Does.{ask};
+ghost use Rattle.calls.specs.Does.{ask};
 ghost use Rattle.line_fields.specs.Requests.{requestIn};
 ghost use Rattle.line_fields.specs.Slots.{Fit};
 ghost use Rattle.line_fields.specs.Buffers.{buffers};

@@ -21,12 +21,14 @@ use Rattle.decision_steps.specs.Request.{write}
 use Rattle.decision_steps.specs.Decision.{step5}
 use Rattle.decision_parts.specs.declared.Authorized.{Authorized}
 use Rattle.decision_parts.specs.declared.NamedView.{NamedView}
+use Rattle.decision_parts.specs.declared.Standing.{Standing}
 use Rattle.decision_parts.specs.declared.Standing.the-variants.{Denied, Viewed}
 use Rattle.decision_parts.specs.Parts.{Authorizes, rowsOf}
-use Rattle.decision_parts.proofs.Decisions.{denied-decision, viewed-decision}
+use Rattle.decision_parts.proofs.Decisions.{denied-decision, viewed-decision, viewed-in}
 use Rattle.instance_encode.specs.Instances.{base, counted, lists, instance, statusColumn}
 use Rattle.instance_encode.proofs.Encoded.{columns-listed}
 use Rattle.edit_rules.specs.Edits.{Caller, columnsWritten, firstRefusal, judgementAt}
+use Rattle.edit_rights.specs.Standing.{Stands}
 use Rattle.edit_rules.proofs.Refusals.{written-begin, refusals-same, all-refused}
 
 -- ---- the columns
@@ -61,11 +63,20 @@ column-inside t column index = omega (arith, length-append (base t) (column ∷ 
 
 module _ {w : List ℕ} {l : Layout} (c : Caller) {r : Authorized}
     (k : Authorizes w l (c .securityModel) (c .securityName) (c .securityLevel) write [] r) (s : Shape) (t : Table) (index : List ℕ) where
-  pub judged-denied : {cause : Cause} → r .standing ≡ Denied cause → Refused cause ≡ judgementAt (tablesAt w l) c s t index
+  judged-denied : {cause : Cause} → r .standing ≡ Denied cause → Refused cause ≡ judgementAt (tablesAt w l) c s t index
   unfolding judgementAt
   judged-denied e = all-refused _ (λ column. denied-decision k (instance t column index) e) s t
 
-  pub judged-viewed : {v : NamedView} → r .standing ≡ Viewed v
+  judged-viewed : {v : NamedView} → r .standing ≡ Viewed v
       → firstRefusal (λ column. step5 (instance t column index) (rowsOf w v)) (columnsWritten s t) ≡ judgementAt (tablesAt w l) c s t index
   unfolding judgementAt
   judged-viewed e = refusals-same (λ column. viewed-decision k (instance t column index) e) (columnsWritten s t)
+
+-- a standing so found is the caller's
+pub stands-in : {w : List ℕ} {l : Layout} (c : Caller) {r : Authorized}
+    → Authorizes w l (c .securityModel) (c .securityName) (c .securityLevel) write [] r → Stands w l c (r .standing)
+stands-in {w} {l} c {r} k = found (r .standing) refl
+  where
+    found : (v : Standing) → r .standing ≡ v → Stands w l c v
+    found (Denied cause) e = record { lies = tt; judges = λ s t index. judged-denied c k s t index e }
+    found (Viewed v) e = record { lies = viewed-in k e; judges = λ s t index. judged-viewed c k s t index e }

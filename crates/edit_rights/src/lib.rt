@@ -17,13 +17,14 @@ ghost use Prim.Native.Nat.{_+_, _≤_, _<_};
 ghost use lib.ListN.{length, set};
 ghost use Rattle.rows.specs.Fields.{faults};
 ghost use Rattle.rows.specs.Rows.{keyFields, indexOf};
-ghost use Rattle.image_judge.specs.Faults.{SoundLayout, tablesAt};
+ghost use Rattle.image_judge.specs.Faults.{SoundLayout};
 ghost use Rattle.decision_steps.specs.Request.{mostParts};
 ghost use Rattle.decision_steps.specs.Decision.{step5};
 ghost use Rattle.decision_parts.specs.Parts.{ViewIn, rowsOf};
 ghost use Rattle.instance_encode.specs.Instances.{counted, instance, statusColumn};
-ghost use Rattle.edit_rules.specs.Edits.{callerOf, isContext, columnsWritten, firstRefusal, judgementAt};
+ghost use Rattle.edit_rules.specs.Edits.{callerOf, isContext, columnsWritten, firstRefusal};
 ghost use Rattle.edit_rights.specs.Admission.{admission};
+ghost use Rattle.edit_rights.specs.Standing.{StandingIn, judgedBy, Stands};
 
 const WRITE: u32 = 2;
 
@@ -116,21 +117,16 @@ fn judge_in(w: &[u8], v: NamedView, s: Shape, t: Table, key: &[u8]) -> Decision
     )
 }
 
-// The edit judged by the tables: steps 1 to 4 once, step 5 at each column.
-fn judge_edit(
+// A caller's standing: steps 1 to 4, the same for all its edits.
+pub fn standing_of(
     w: &[u8],
     l: Layout,
     security_model: u32,
     security_name: &[u8],
     security_level: u32,
-    s: Shape,
-    t: Table,
-    key: &[u8],
-) -> Decision
-    requires tables { ⌜ SoundLayout (now w) l ⌝ }
-    requires whole { ⌜ faults (keyFields t) (now key) ≡ none ⌝ }
-    ensures { λ r. ⌜ r ≡ judgementAt (tablesAt (now (w .entry)) l) (callerOf «security_model» (now («security_name» .entry)) «security_level») s t
-        (indexOf t (now (key .entry))) ⌝ }
+) -> Standing
+    requires { ⌜ SoundLayout (now w) l ⌝ }
+    ensures { λ r. ⌜ Stands (now (w .entry)) l (callerOf «security_model» (now («security_name» .entry)) «security_level») r ⌝ }
 {
     let context = [0u8; 1];
     let authorized = decision_parts::authorize(
@@ -142,7 +138,15 @@ fn judge_edit(
         WRITE,
         &context[0..0],
     );
-    let standing = authorized.standing;
+    authorized.standing
+}
+
+// The edit judged by a standing: step 5 at each column.
+fn judge_by(w: &[u8], standing: Standing, s: Shape, t: Table, key: &[u8]) -> Decision
+    requires standing { ⌜ StandingIn (now w) standing ⌝ }
+    requires whole { ⌜ faults (keyFields t) (now key) ≡ none ⌝ }
+    ensures { λ r. ⌜ r ≡ judgedBy (now (w .entry)) standing s t (indexOf t (now (key .entry))) ⌝ }
+{
     match standing {
         Standing::Denied(cause) => Decision::Refused(cause),
         Standing::Viewed(v) => judge_in(w, v, s, t, key),
@@ -158,34 +162,15 @@ pub enum Admission {
 }
 
 // The edit of the row with this key, admitted or denied: a context row's to nobody, any other's as the tables say.
-pub fn admit(
-    w: &[u8],
-    l: Layout,
-    security_model: u32,
-    security_name: &[u8],
-    security_level: u32,
-    s: Shape,
-    t: Table,
-    key: &[u8],
-) -> Admission
-    requires tables { ⌜ SoundLayout (now w) l ⌝ }
+pub fn admit(w: &[u8], standing: Standing, s: Shape, t: Table, key: &[u8]) -> Admission
+    requires standing { ⌜ StandingIn (now w) standing ⌝ }
     requires whole { ⌜ faults (keyFields t) (now key) ≡ none ⌝ }
-    ensures { λ r. ⌜ r ≡ admission (isContext t) (judgementAt (tablesAt (now (w .entry)) l)
-        (callerOf «security_model» (now («security_name» .entry)) «security_level») s t (indexOf t (now (key .entry)))) ⌝ }
+    ensures { λ r. ⌜ r ≡ admission (isContext t) (judgedBy (now (w .entry)) standing s t (indexOf t (now (key .entry)))) ⌝ }
 {
     if is_context(t) {
         return Admission::Denied(Edited::Faulty(Fault::ContextTable));
     }
-    let judged = judge_edit(
-        w,
-        l,
-        security_model,
-        security_name,
-        security_level,
-        s,
-        t,
-        key,
-    );
+    let judged = judge_by(w, standing, s, t, key);
     if let Decision::Refused(cause) = judged {
         return Admission::Denied(Edited::Barred(cause));
     }

@@ -46,12 +46,12 @@ use Rattle.rows.specs.declared.Shape.the-variants.{Row, Key}
 use Rattle.edit_rules.specs.declared.Edited.{Edited}
 use Rattle.edit_rules.proofs.Edited.{the-type}
 use Rattle.edit_rules.specs.declared.Edited.the-variants.{Done, Barred, Faulty}
-use Rattle.edit_rules.specs.Edits.{Outcome, outcome, editedNumber, editOf, shapeOf, faulted, edit, isContext}
+use Rattle.edit_rules.specs.Edits.{Outcome, outcome, editedNumber, editOf, shapeOf, faulted, rowFault, edit, isContext}
 use Rattle.edit_rules.specs.TableRows.{rowIndex, rowsOf}
 use Rattle.edit_rules.specs.Storage.{storageIn, storageAt, StorageKnown, placeFault, placed, fullAt}
 use Rattle.edit_rules.proofs.Storages.{storage-room, storage-at, held-storage}
 use Rattle.edit_rules.proofs.Outcomes.{afterwards, judged, faulty-done, changed, comes, tables, tables-ext, rows-ascend, rows-in, key-whole, key-of}
-use Rattle.edit_rules.proofs.Outcomes.{edit-change}
+use Rattle.edit_rules.proofs.Outcomes.{fault-here, edit-change}
 use Rattle.edit_rules.proofs.Keys.{key-part}
 use Rattle.edit_rows.specs.Promise.{answered, left, Edits, lengthIn}
 
@@ -92,7 +92,7 @@ sought-laid t w bytes {l} {x} {k} q y e s = let z : k - 0 ≡ span (keyFields t)
 abbrev pub storeRows : List ℕ → Table → List (List ℕ)
 storeRows w t = tableRows t w
 
-held-sound : (w : List ℕ) → isSound w ≡ true → held w ≡ some (tables (storeRows w))
+pub held-sound : (w : List ℕ) → isSound w ≡ true → held w ≡ some (tables (storeRows w))
 unfolding held tablesAt
 held-sound w h = cond-true _ _ h
 
@@ -245,6 +245,13 @@ module _ (t : Table) (w : List ℕ) (h : isSound w ≡ true) (b : Octets w) (str
   sound-after o Key f e x = sound-removed t w bytes h b d f (rw (key-whole t bytes f) at x)
 
   module _ (o : Operation) (f : faults (fieldsOf (shapeOf o) t) bytes ≡ none) where
+    -- what stands against the edit among the tables is what does at the place
+    pub fault-is : {l : Layout} → l ≡ layoutOf w → faultAt o ≡ rowFault strict (tablesAt w l) (editOf o t bytes)
+    unfolding tablesAt
+    fault-is q =
+        sym (fault-here (storeRows w) (λ u. sound-whole u w h b) (λ u. sound-ascends u w h) strict t n bytes d o f
+        ∙ rw (storage-at s, s .present-is)) ∙ rw q
+
     edit-is : edit strict (tables (storeRows w)) (editOf o t bytes)
         ≡ judged (changed t (rowsBefore key rows) (oneIf (isHeld key rows)) (comes (shapeOf o) bytes) (storeRows w)) (tables (storeRows w)) (answerAt o)
     edit-is =

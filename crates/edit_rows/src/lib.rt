@@ -9,7 +9,8 @@ use table_update::Place;
 ghost use mathlib.Core.Path.{_≡_};
 ghost use mathlib.Core.Bool.{true, false};
 ghost use Rattle.rows.specs.Rows.{limit};
-ghost use Rattle.edit_rules.specs.Edits.{edit as Edits·edit, editOf, shapeOf, faulted, presenceFault};
+ghost use Rattle.image_judge.specs.Faults.{tablesAt};
+ghost use Rattle.edit_rules.specs.Edits.{edit as Edits·edit, editOf, shapeOf, faulted, presenceFault, rowFault};
 ghost use Rattle.edit_rules.specs.Storage.{storageIn, storageAt, StorageKnown, placeFault, fullAt};
 ghost use Rattle.edit_rows.specs.Promise.{Edits, Editable, Handed, lengthIn};
 
@@ -44,6 +45,25 @@ pub fn judge_place(w: &[u8], strict: bool, o: Operation, p: Place, bytes: &[u8])
         }
     }
     Edited::Done
+}
+
+// What stands against the edit of a row of a table by bytes, of which the first `key` are its key, if anything but room does.
+pub fn judge(
+    w: &[u8],
+    l: Layout,
+    strict: bool,
+    o: Operation,
+    t: Table,
+    bytes: &[u8],
+    key: usize,
+) -> Edited
+    requires store { ⌜ Editable strict t (now w) l ⌝ }
+    requires handed { ⌜ Handed (shapeOf o) t (now bytes) key ⌝ }
+    ensures { λ r. ⌜ r ≡ faulted (rowFault strict (tablesAt (now (w .entry)) l) (editOf o t (now (bytes .entry)))) ⌝ }
+{
+    let x = table_update::extent_of(l, t);
+    let p = table_update::seek(w, x, &bytes[0..key]);
+    judge_place(w, strict, o, p, bytes)
 }
 
 // Whether an edit would bring a further row into a table that has as many as it may.

@@ -190,7 +190,7 @@ module _ (rs : Table → List (List ℕ)) (a : (t : Table) → Whole t (rs t)) (
   abbrev pub after : Tables
   after = changed t (rowsBefore key (rs t)) (oneIf present) (comes (shapeOf o) bytes) rs
 
-  fault-here : rowFault strict (tables rs) (editOf o t bytes) ≡ faultAt
+  pub fault-here : rowFault strict (tables rs) (editOf o t bytes) ≡ faultAt
   unfolding rowFault indexOfEdit
   fault-here =
       ap (λ us. heldFault strict o (Option·map (storageOf t) (rowAt (rowIndex t) (indexOf t bytes) us)) (storageOf t (rowOf t bytes))) (rows-in rs t)

@@ -1,6 +1,6 @@
 -- What the calls promise, by what the code finds.
--- A store that is not sound is 6, and what is handed out of its ranges 7, to the owner and to a principal alike (`unready-owner`,
--- `unready-principal`). Otherwise the owner's edit is the edit. A principal's is 7 for the caller's fields; a context row or the tables' refusal,
+-- A store that is not sound is 6, and what is handed out of its ranges 7, to the owner (`owner-illegal`) and to a principal
+-- (`unready-principal`) alike. Otherwise the owner's edit is the edit. A principal's is 7 for the caller's fields; a context row or the tables' refusal,
 -- where it is not admitted; and otherwise what the edit itself leaves, under the storage rules. Assumes nothing.
 use mathlib.Core.Path.{_≡_, refl, sym, ap, subst, _∙_}
 use mathlib.Core.Bool.{Bool, true, false, cond}
@@ -68,25 +68,20 @@ module _ (c : Operation) (t : Table) (w bytes : List ℕ) where
       → Ready l k ≡ prepared w c t bytes
   prepared-ready a f q e = rw (a, legal-is c t bytes, f, q, e)
 
-  -- by any edit that refuses what is not legal
-  unready : (f : Tables → Outcome) → (legalEdit (editOf c t bytes) ≡ false → (ts : Tables) → f ts ≡ outcome (Faulty OutOfRange) ts)
-      → {g : Fault} → Unready g ≡ prepared w c t bytes → Edits f w w (Faulty g)
-  unready f m {g} e =
-      split (isSound w)
-      (λ a. split (legalEdit (editOf c t bytes)) (λ b. let z : _≡_ {A = ℕ} 0 1 = cc (rw (a, b) at e) in absurd (omega arith))
-      (λ b. let z : g ≡ OutOfRange = cc (rw (a, b) at e) in rw z (edits-refused f w a (Faulty OutOfRange) (m b (tables (storeRows w))))))
-      (λ a. let z : g ≡ NotSound = cc (rw a at e) in rw z (edits-unsound f w a))
-
-  pub unready-owner : {g : Fault} → Unready g ≡ prepared w c t bytes → OwnerEdits (editOf c t bytes) w w (Faulty g)
-  unfolding ownerEdit ownerJudged
-  unready-owner e = unready (λ ts. ownerEdit ts (editOf c t bytes)) (λ b ts. rw b) e
-
   pub unready-principal : (who : Caller) {g : Fault} → Unready g ≡ prepared w c t bytes → PrincipalEdits who (editOf c t bytes) w w (Faulty g)
   unfolding principalEdit principalJudged
-  unready-principal who e =
-      unready (λ ts. principalEdit ts who (editOf c t bytes)) (λ b ts. rw (and-false-right (legalCaller who) b)) e
+  unready-principal who {g} e =
+      let f : Tables → Outcome = λ ts. principalEdit ts who (editOf c t bytes) in
+      split (isSound w)
+      (λ a. split (legalEdit (editOf c t bytes)) (λ b. let z : _≡_ {A = ℕ} 0 1 = cc (rw (a, b) at e) in absurd (omega arith))
+      (λ b. let z : g ≡ OutOfRange = cc (rw (a, b) at e) in rw z (edits-refused f w a (Faulty OutOfRange) (rw (and-false-right (legalCaller who) b)))))
+      (λ a. let z : g ≡ NotSound = cc (rw a at e) in rw z (edits-unsound f w a))
 
--- ---- the owner's edit is the edit, of what is legal
+-- ---- the owner's edit: 7 of what is not legal, and otherwise the edit
+
+pub owner-illegal : (e : Edit) (w : List ℕ) → isSound w ≡ true → legalEdit e ≡ false → OwnerEdits e w w (Faulty OutOfRange)
+unfolding ownerEdit ownerJudged
+owner-illegal e w h l = edits-refused (λ ts. ownerEdit ts e) w h (Faulty OutOfRange) (rw l)
 
 pub owner-legal : (e : Edit) (w : List ℕ) {after : List ℕ} {r : Edited} → legalEdit e ≡ true → Edits (λ ts. edit false ts e) w after r → OwnerEdits e w after r
 unfolding ownerEdit ownerJudged edit
@@ -100,12 +95,12 @@ granted-free true j a = cc
 granted-free false j a = refl
 
 module _ (v : Edited) where
-  granted-is : (b : Bool) (j : Decision) → Granted ≡ admission b j → cond b (Faulty ContextTable) (allowed j v) ≡ v
+  pub granted-is : (b : Bool) (j : Decision) → Granted ≡ admission b j → cond b (Faulty ContextTable) (allowed j v) ≡ v
   granted-is true j a = cc
   granted-is false Allowed a = refl
   granted-is false (Refused x) a = cc
 
-  denied-is : (b : Bool) (j : Decision) {r : Edited} → Denied r ≡ admission b j → cond b (Faulty ContextTable) (allowed j v) ≡ r
+  pub denied-is : (b : Bool) (j : Decision) {r : Edited} → Denied r ≡ admission b j → cond b (Faulty ContextTable) (allowed j v) ≡ r
   denied-is true j a = cc
   denied-is false Allowed a = cc
   denied-is false (Refused x) a = cc

@@ -1,33 +1,28 @@
--- Every call can be made on every store of octets: there is an answer, and a store afterwards, such that the call does just this.
--- A decision request and a walk answer by their definitions and leave the store; a walk may be lent no room. An edit of a store that is not sound, or by
--- what is not legal, or that is not admitted, is refused and leaves the store; any other is an edit of a sound store by legal bytes (`Existence` of crate
--- `edit_rows`). Assumes nothing.
+-- Every edit can be made on every store of octets: there is an answer, and a store afterwards, such that the edit does just this.
+-- An edit of a store that is not sound, or by what is not legal, or that is not admitted, is refused and leaves the store; any other is an edit of a sound
+-- store by legal bytes (`Existence` of crate `edit_rows`). Assumes nothing.
 use mathlib.Core.Path.{_≡_, refl}
 use mathlib.Core.Bool.{Bool, true, false}
-use mathlib.Core.List.{List, []}
+use mathlib.Core.List.{List}
 use Prim.Native.Nat.{ℕ}
 use Rattle.answers.specs.declared.Decision.{Decision}
 use Rattle.answers.specs.declared.Decision.the-variants.{Allowed, Refused}
 use Rattle.answers.specs.declared.Fault.the-variants.{OutOfRange, ContextTable}
 use Rattle.numbers.proofs.Bools.{split, clash}
 use Rattle.numbers.specs.BigEndian.{Octets}
-use Rattle.numbers.specs.Laid.{laid}
 use Rattle.rows.specs.Tables.{Tables}
 use Rattle.image_layout.specs.Layout.{layoutOf}
 use Rattle.image_judge.specs.Faults.{tablesAt}
-use Rattle.image.specs.Store.{isSound, held}
-use Rattle.decision_steps.specs.Decision.{answer}
+use Rattle.image.specs.Store.{isSound}
 use Rattle.edit_rules.specs.declared.Edited.{Edited}
 use Rattle.edit_rules.specs.declared.Edited.the-variants.{Barred, Faulty}
 use Rattle.edit_rules.specs.Edits.{Outcome, Edit, Caller, edit, legalEdit, legalCaller, isContext, judgement}
 use Rattle.edit_rows.specs.Promise.{Edits}
 use Rattle.edit_rows.proofs.Stores.{edits-unsound}
 use Rattle.edit_rows.proofs.Existence.{Made, edit-made}
-use Rattle.walk_rules.specs.Walk.{walkIn, handed}
 use Rattle.edits.specs.declared.Prepared.the-variants.{Unready}
 use Rattle.edits.specs.Calls.{ownerEdit, principalEdit, prepared}
-use Rattle.edits.specs.Does.{Call, ask, owner, by, walk, Reply, decided, edited, walked, Does, asks, owns, acts, walks, HandsOctets}
-use Rattle.edits.proofs.Calls.{ready-whole, unready-owner, unready-principal, owner-legal, caller-illegal, principal-denied, principal-granted}
+use Rattle.edits.proofs.Calls.{ready-whole, unready-principal, owner-illegal, owner-legal, caller-illegal, principal-denied, principal-granted}
 
 -- a store that stays
 stays : (f : Tables → Outcome) (w : List ℕ) → Octets w → {r : Edited} → Edits f w w r → Made f w
@@ -49,7 +44,7 @@ module _ (e : Edit) (d : Octets (e .bytes)) (w : List ℕ) (b : Octets w) where
       (λ l.
       let m = made false (λ y. clash y refl) h l in
       record { left = m .left; answered = m .answered; promise = owner-legal e w l (m .promise); octets = m .octets })
-      (λ l. stays (λ t. ownerEdit t e) w b (unready-owner (e .operation) (e .table) w (e .bytes) (unready-is l h))))
+      (λ l. stays (λ t. ownerEdit t e) w b (owner-illegal e w h l)))
       (λ h. stays (λ t. ownerEdit t e) w b (edits-unsound (λ t. ownerEdit t e) w h))
 
   module _ (c : Caller) where
@@ -80,24 +75,3 @@ module _ (e : Edit) (d : Octets (e .bytes)) (w : List ℕ) (b : Octets w) where
         (λ k. stays f w b (caller-illegal c e w h k)))
         (λ l. stays f w b (unready-principal (e .operation) (e .table) w (e .bytes) c (unready-is l h))))
         (λ h. stays f w b (edits-unsound f w h))
-
--- ---- a call
-
-pub record Done (w : List ℕ) (c : Call) : Type 0 where
-  pub reply : Reply
-  pub left : List ℕ
-  pub does : Does w c reply left
-  pub octets : Octets left
-
-pub call-done : (w : List ℕ) → Octets w → (c : Call) → HandsOctets c → Done w c
-call-done w b (ask q) d = record { reply = decided (answer (held w) q); left = w; does = asks (record { answer-is = refl; number-is = refl }); octets = b }
-call-done w b (owner e) d =
-    let m = owner-made e d w b in record { reply = edited (m .answered); left = m .left; does = owns (m .promise); octets = m .octets }
-call-done w b (by c e) d =
-    let m = principal-made e d w b c in record { reply = edited (m .answered); left = m .left; does = acts (m .promise); octets = m .octets }
-call-done w b (walk c i) d = record {
-  reply = walked (handed (walkIn (held w) c i .answer) (laid 0 (walkIn (held w) c i .identifier) []) (laid 0 (walkIn (held w) c i .key) []));
-  left = w;
-  does = walks (record { answer-is = refl; number-is = refl; parts-are = refl; key-is = refl });
-  octets = b;
-}

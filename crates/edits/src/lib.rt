@@ -9,10 +9,12 @@ use rows::Shape;
 use rows::Step;
 use rows::Table;
 ghost use mathlib.Core.Path.{_≡_};
+ghost use mathlib.Core.Bool.{false};
 ghost use Rattle.rows.specs.Fields.{faults, span};
 ghost use Rattle.rows.specs.Rows.{keyFields, fieldsOf};
 ghost use Rattle.rows.specs.Steps.{reached};
 ghost use Rattle.edit_rules.specs.Edits.{editOf, shapeOf, callerOf};
+ghost use Rattle.edit_rows.specs.Promise.{Editable};
 ghost use Rattle.edits.specs.Calls.{OwnerEdits, PrincipalEdits, editedNumber, prepared};
 
 // The number of an edit's answer.
@@ -26,7 +28,8 @@ pub fn edited_number(e: Edited) -> u32
     }
 }
 
-fn judge_handed(o: Operation, t: Table, bytes: &[u8]) -> Step
+// What an edit is handed, judged: where its key ends.
+pub fn judge_handed(o: Operation, t: Table, bytes: &[u8]) -> Step
     ensures { λ r. ⌜ r ≡ reached (faults (fieldsOf (shapeOf o) t) (now (bytes .entry))) (span (keyFields t) (now (bytes .entry))) ⌝ }
 {
     match edit_rules::shape_of(o) {
@@ -55,15 +58,27 @@ fn prepare(store: &[u8], o: Operation, t: Table, bytes: &[u8]) -> Prepared
     Prepared::Ready(l, k)
 }
 
+// The owner's edit of a store that is sound, its tables lying so.
+pub fn edit_laid(store: &mut [u8], l: Layout, o: Operation, t: Table, bytes: &[u8]) -> Edited
+    requires { ⌜ Editable false t (now store) l ⌝ }
+    ensures { λ r. ⌜ OwnerEdits (editOf o t (now (bytes .entry))) (now (store .entry)) (now (store .exit)) r ⌝ }
+{
+    let step = judge_handed(o, t, bytes);
+    let Step::At(k) = step else {
+        return Edited::Faulty(Fault::OutOfRange);
+    };
+    edit_rows::edit(store, l, false, o, t, bytes, k)
+}
+
 // The owner creates a row, changes the row with its key, or removes the row with a key.
 pub fn owner_edit(store: &mut [u8], o: Operation, t: Table, bytes: &[u8]) -> Edited
     ensures { λ r. ⌜ OwnerEdits (editOf o t (now (bytes .entry))) (now (store .entry)) (now (store .exit)) r ⌝ }
 {
-    let prepared = prepare(store, o, t, bytes);
-    match prepared {
-        Prepared::Unready(f) => Edited::Faulty(f),
-        Prepared::Ready(l, k) => edit_rows::edit(store, l, false, o, t, bytes, k),
-    }
+    let surveyed = image::survey_store(store);
+    let Surveyed::Laid(l) = surveyed else {
+        return Edited::Faulty(Fault::NotSound);
+    };
+    edit_laid(store, l, o, t, bytes)
 }
 
 // The same by a principal, where the tables and the storage let it.
@@ -86,17 +101,15 @@ pub fn principal_edit(
             if !edit_rules::is_caller(security_model, security_name, security_level) {
                 return Edited::Faulty(Fault::OutOfRange);
             }
-            let key = &bytes[0..k];
-            let admission = edit_rights::admit(
+            let standing = edit_rights::standing_of(
                 store,
                 l,
                 security_model,
                 security_name,
                 security_level,
-                edit_rules::shape_of(o),
-                t,
-                key,
             );
+            let key = &bytes[0..k];
+            let admission = edit_rights::admit(store, standing, edit_rules::shape_of(o), t, key);
             if let Admission::Denied(r) = admission {
                 return r;
             }

@@ -9,8 +9,8 @@ use Prim.Native.Nat.{ℕ}
 use Rattle.numbers.proofs.Bools.{split}
 use Rattle.rows.specs.Tables.{Tables}
 use Rattle.image.specs.Store.{held}
-use Rattle.edits.specs.Does.{Call, Reply}
-use Rattle.edits.proofs.Steps.{step, does-step}
+use Rattle.calls.specs.Does.{Call, Reply}
+use Rattle.calls.proofs.Steps.{step, does-step}
 use Rattle.isolation.specs.Isolation.{Told, calls, Run, done, more, Along, Circle, shared, picked, staysInside, insidersEdit, keepsToGroup}
 use Rattle.isolation.specs.Isolation.{keepsToViews, findsRoom, othersRefused, WalksConfined}
 use Rattle.isolation.proofs.Circles.{circleRows, Orderly}
@@ -80,7 +80,7 @@ module _ (w : Circle) where
       split (shared w c)
       (λ y.
       let q : step (circleRows w t) c ≡ (step t c .0, circleRows w t′) =
-      step-shared w t c i (held-legal s b e) y (k .members-inside .0) f (k .walks-confined .0 t e) in
+      step-shared w t c i (held-legal s b e) y (k .members-inside .0) (k .members-grouped .0) (k .views-chosen .0) f (k .walks-confined .0 t e) in
       record {
         tables = ih .tables;
         tables-held = ih .tables-held;

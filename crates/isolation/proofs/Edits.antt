@@ -11,7 +11,6 @@ use native.Mathlib.Omega.{arith}
 use lib.Dec.{eqb, leb}
 use lib.ListN.{length}
 use borrow.Author.Tests.{leb-false, lt-leb}
-use Rattle.numbers.specs.Lists.{keep}
 use Rattle.numbers.proofs.Bools.{split, clash, and-left, and-right, and-both, and-false-or, and-false-left, and-false-right, or-right}
 use Rattle.rows.specs.declared.Table.{Table}
 use Rattle.rows.specs.declared.Table.the-variants.{Context, Mapping, Access, View}
@@ -60,7 +59,11 @@ module _ (w : Circle) where
   abbrev pub circleOf : Outcome → Outcome
   circleOf o = outcome (o .answer) (circleRows w (o .rows))
 
-  module _ (ts : Tables) (e : Edit) where
+  -- the circle's rows are no more than all rows
+  pub no-more : (t : Table) (ts : Tables) → length (rowsOf t (circleRows w ts)) ≤ length (rowsOf t ts)
+  no-more t ts = rw (rows-circle w t ts) (length-keep (rowIn w t) (rowsOf t ts))
+
+  module _ (e : Edit) where
     abbrev of : Bool
     of = ofCircle w e
 
@@ -69,72 +72,10 @@ module _ (w : Circle) where
     unfolding indexOfEdit
     at-index h x q = key-same w (e .table) (e .bytes) x q ∙ h
 
-    -- ---- of the circle
-
-    module _ (h : of ≡ true) where
-      held-circle : rowHeld (circleRows w ts) e ≡ rowHeld ts e
-      held-circle =
-          ap (rowAt (rowIndex (e .table)) (indexOfEdit e)) (rows-circle w (e .table) ts)
-          ∙ rowAt-keep (rowIndex (e .table)) (rowIn w (e .table)) (indexOfEdit e) (rowsOf (e .table) ts) (at-index h)
-
-      pub fault-circle : (strict : Bool) → rowFault strict (circleRows w ts) e ≡ rowFault strict ts e
-      unfolding rowFault
-      fault-circle strict =
-          ap (λ o. heldFault strict (e .operation) (Option·map (storageOf (e .table)) o) (storageOf (e .table) (rowOf (e .table) (e .bytes)))) held-circle
-
-      -- room among all rows is room among the circle's
-      room-circle : leb (limit (e .table)) (length (rowsOf (e .table) ts)) ≡ false
-          → leb (limit (e .table)) (length (rowsOf (e .table) (circleRows w ts))) ≡ false
-      room-circle f =
-          let a : length (rowsOf (e .table) ts) < limit (e .table) = leb-false _ _ f in
-          let rs = rowsOf (e .table) ts in
-          let b : length (keep (rowIn w (e .table)) rs) ≤ length rs = length-keep (rowIn w (e .table)) rs in
-          lt-leb (limit (e .table)) _ (rw (rows-circle w (e .table) ts) (omega arith))
-
-      full-circle : isFull ts e ≡ false → isFull (circleRows w ts) e ≡ false
-      unfolding isFull
-      full-circle f =
-          and-false-or (isCreate (e .operation)) _ f (λ a. and-false-left _ a) (λ a. and-false-right (isCreate (e .operation)) (room-circle a))
-
-      module _ (i : Orderly w ts) where
-        applied-circle : applied (circleRows w ts) e ≡ circleRows w (applied ts e)
-        unfolding applied
-        applied-circle =
-            let t = e .table in
-            let after = rowsAfter (rowIndex t) (shapeOf (e .operation)) (rowOf t (e .bytes)) (indexOfEdit e) in
-            ap (withRows t (circleRows w ts))
-            (ap after (rows-circle w t ts)
-            ∙ sym (keep-after-in (rowIndex t) (rowIn w t) (shapeOf (e .operation)) _ (indexOfEdit e) (rowsOf t ts) (own-index e) (at-index h)
-            (orderly-at w t i .0)))
-            ∙ with-circle w t ts (after (rowsOf t ts))
-
-        pub settled-in : (v : Edited) → implies (isCreate (e .operation)) (not (eqb (editedNumber (settled v ts e .answer)) 9)) ≡ true
-            → settled v (circleRows w ts) e ≡ circleOf (settled v ts e)
-        settled-in Done q = let f = found-room ts e q in rw (f, full-circle f, applied-circle)
-        settled-in (Barred c) q = refl
-        settled-in (Faulty f) q = refl
-
-    -- ---- outside of it
-
-    applied-out : of ≡ false → circleRows w (applied ts e) ≡ circleRows w ts
-    unfolding applied
-    applied-out h =
-        let t = e .table in
-        sym (with-circle w t ts _)
-        ∙ ap (withRows t (circleRows w ts))
-        (keep-after-out (rowIndex t) (rowIn w t) (shapeOf (e .operation)) _ (indexOfEdit e) (rowsOf t ts) (own-index e) (at-index h))
-        ∙ with-circle w t ts (rowsOf t ts)
-        ∙ ap (circleRows w) (own-rows t ts)
-
-    pub settled-out : of ≡ false → (v : Edited) → circleRows w (settled v ts e .rows) ≡ circleRows w ts
-    settled-out h v = settled-either (λ u. circleRows w u ≡ circleRows w ts) v ts e refl (applied-out h)
-
-    -- ---- an edit that fits
-
     abbrev pub fits : Bool
     fits = implies of (keepsToGroup w e && keepsToViews w e)
 
-    -- the row that it hands
+    -- the row that an edit hands which fits
     row-fits : fits ≡ true → handsRow e ≡ true → rowFits w (e .table) (rowOf (e .table) (e .bytes)) ≡ true
     row-fits f h =
         let r = rowOf (e .table) (e .bytes) in
@@ -146,13 +87,81 @@ module _ (w : Circle) where
         or-right (not (rowIn w (e .table) r)) (and-both m c))
         (λ o. rw (at-index o r (sym (own-index e))))
 
-    pub settled-orderly : fits ≡ true → Orderly w ts → (v : Edited) → Orderly w (settled v ts e .rows)
+    -- an insider's edit, which is bound where b holds
+    pub fits-both : (b : Bool) → (of ≡ true → b ≡ true) → implies b (keepsToGroup w e) ≡ true → implies b (keepsToViews w e) ≡ true → fits ≡ true
+    fits-both b h g v = split of (λ o. rw o (and-both (implied b _ g (h o)) (implied b _ v (h o)))) (λ o. rw o)
+
+  module _ (ts : Tables) (e : Edit) where
+    -- ---- of the circle
+
+    module _ (h : of e ≡ true) where
+      held-circle : rowHeld (circleRows w ts) e ≡ rowHeld ts e
+      held-circle =
+          ap (rowAt (rowIndex (e .table)) (indexOfEdit e)) (rows-circle w (e .table) ts)
+          ∙ rowAt-keep (rowIndex (e .table)) (rowIn w (e .table)) (indexOfEdit e) (rowsOf (e .table) ts) (at-index e h)
+
+      pub fault-circle : (strict : Bool) → rowFault strict (circleRows w ts) e ≡ rowFault strict ts e
+      unfolding rowFault
+      fault-circle strict =
+          ap (λ o. heldFault strict (e .operation) (Option·map (storageOf (e .table)) o) (storageOf (e .table) (rowOf (e .table) (e .bytes)))) held-circle
+
+      -- room among all rows is room among the circle's
+      room-circle : leb (limit (e .table)) (length (rowsOf (e .table) ts)) ≡ false
+          → leb (limit (e .table)) (length (rowsOf (e .table) (circleRows w ts))) ≡ false
+      room-circle f =
+          let a : length (rowsOf (e .table) ts) < limit (e .table) = leb-false _ _ f in
+          let b = no-more (e .table) ts in
+          lt-leb (limit (e .table)) _ (omega arith)
+
+      full-circle : isFull ts e ≡ false → isFull (circleRows w ts) e ≡ false
+      unfolding isFull
+      full-circle f =
+          and-false-or (isCreate (e .operation)) _ f (λ a. and-false-left _ a) (λ a. and-false-right (isCreate (e .operation)) (room-circle a))
+
+      module _ (i : Orderly w ts) where
+        pub applied-circle : applied (circleRows w ts) e ≡ circleRows w (applied ts e)
+        unfolding applied
+        applied-circle =
+            let t = e .table in
+            let after = rowsAfter (rowIndex t) (shapeOf (e .operation)) (rowOf t (e .bytes)) (indexOfEdit e) in
+            ap (withRows t (circleRows w ts))
+            (ap after (rows-circle w t ts)
+            ∙ sym (keep-after-in (rowIndex t) (rowIn w t) (shapeOf (e .operation)) _ (indexOfEdit e) (rowsOf t ts) (own-index e) (at-index e h)
+            (orderly-at w t i .0)))
+            ∙ with-circle w t ts (after (rowsOf t ts))
+
+        pub settled-in : (v : Edited) → implies (isCreate (e .operation)) (not (eqb (editedNumber (settled v ts e .answer)) 9)) ≡ true
+            → settled v (circleRows w ts) e ≡ circleOf (settled v ts e)
+        settled-in Done q = let f = found-room ts e q in rw (f, full-circle f, applied-circle)
+        settled-in (Barred c) q = refl
+        settled-in (Faulty f) q = refl
+
+    -- ---- outside of it
+
+    pub applied-out : of e ≡ false → circleRows w (applied ts e) ≡ circleRows w ts
     unfolding applied
-    settled-orderly f i v =
+    applied-out h =
+        let t = e .table in
+        sym (with-circle w t ts _)
+        ∙ ap (withRows t (circleRows w ts))
+        (keep-after-out (rowIndex t) (rowIn w t) (shapeOf (e .operation)) _ (indexOfEdit e) (rowsOf t ts) (own-index e) (at-index e h))
+        ∙ with-circle w t ts (rowsOf t ts)
+        ∙ ap (circleRows w) (own-rows t ts)
+
+    pub settled-out : of e ≡ false → (v : Edited) → circleRows w (settled v ts e .rows) ≡ circleRows w ts
+    settled-out h v = settled-either (λ u. circleRows w u ≡ circleRows w ts) v ts e refl (applied-out h)
+
+    -- ---- an edit that fits
+
+    pub applied-orderly : fits e ≡ true → Orderly w ts → Orderly w (applied ts e)
+    unfolding applied
+    applied-orderly f i =
         let t = e .table in
         let a = orderly-at w t i in
-        settled-either (Orderly w) v ts e i
-        (orderly-with w t _ i (
+        orderly-with w t _ i (
           ascends-after (rowIndex t) (shapeOf (e .operation)) _ (indexOfEdit e) (rowsOf t ts) (a .0),
-          every-after (rowIndex t) (rowFits w t) (shapeOf (e .operation)) _ (indexOfEdit e) (rowsOf t ts) (row-fits f) (a .1),
-        ))
+          every-after (rowIndex t) (rowFits w t) (shapeOf (e .operation)) _ (indexOfEdit e) (rowsOf t ts) (row-fits e f) (a .1),
+        )
+
+    pub settled-orderly : fits e ≡ true → Orderly w ts → (v : Edited) → Orderly w (settled v ts e .rows)
+    settled-orderly f i v = settled-either (Orderly w) v ts e i (applied-orderly f i)

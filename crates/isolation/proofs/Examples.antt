@@ -1,6 +1,6 @@
 -- Lists of calls, computed: two that differ and meet every condition, and for each condition two that break it alone and are told
--- different things; lists with walks are in `WalkExamples`. A list is run on tables, from no rows; any run on a fresh store is told the same
--- (`run-told`). By computation.
+-- different things; lists with walks are in `WalkExamples`, lists with sets in `SetExamples`. A list is run on tables, from no rows; any run on a fresh
+-- store is told the same (`run-told`). By computation.
 -- The circle: the group "leads", its one member ann (security model 3), the one chosen view "all". Assumes nothing.
 use mathlib.Core.Path.{_≡_, refl, sym, ap, _∙_}
 use mathlib.Core.Bool.{Bool, true, false, _&&_}
@@ -15,7 +15,7 @@ use Rattle.numbers.specs.Lists.{every}
 use Rattle.numbers.proofs.Bools.{clash, and-left, and-right}
 use Rattle.numbers.specs.Order.{same, before, begins}
 use Rattle.rows.specs.declared.Table.the-variants.{Context, Mapping, Access, View}
-use Rattle.rows.specs.Fields.{sequenceFault, integerFault, faults, rowBytes}
+use Rattle.rows.specs.Fields.{sequenceFault, integerFault, faults, fronts, span, rowBytes}
 use Rattle.rows.specs.Rows.{keyFields, rowFields}
 use Rattle.rows.specs.Tables.{Tables, noRows}
 use Rattle.numbers.specs.BigEndian.{Octets}
@@ -30,10 +30,12 @@ use Rattle.edit_rules.specs.declared.Operation.the-variants.{Create, Change, Re
 use Rattle.edit_rules.specs.Edits.{Edit, editOf, Caller, indexOfEdit, legalEdit, mayPut, mayRemove, rowFault, isFull, applied, legalCaller, judgementAt}
 use Rattle.walk_rules.specs.Walk.{walkOn, legalWalk, nextInstance, follows, mayRead, least}
 use Rattle.edits.specs.Calls.{ownerJudged, ownerEdit, principalJudged, principalEdit}
-use Rattle.edits.specs.Does.{Call, ask, owner, by, walk, Reply, replyNumber, HandsOctets}
+use Rattle.set_rules.specs.Handed.{AllOctets}
+use Rattle.set_rules.specs.Sets.{isSet, sameKey, keyLegal, keyBytes, orNext, room as roomAfter, setJudged, principalSet}
+use Rattle.calls.specs.Does.{Call, ask, owner, by, bySet, walk, Reply, replyNumber, HandsOctets}
 use Rattle.isolation.specs.Isolation.{Told, calls, Run, done, more, Along, Fresh, Circle, picked, staysInside, insidersEdit, keepsToGroup}
 use Rattle.isolation.specs.Isolation.{keepsToViews, findsRoom, othersRefused, Confined, WalksConfined, Conditions}
-use Rattle.edits.proofs.Steps.{step, does-step}
+use Rattle.calls.proofs.Steps.{step, does-step}
 use Rattle.isolation.specs.Runs.{AllHandOctets, RunOf}
 use Rattle.isolation.proofs.Runs.{every-list-runs}
 use Rattle.isolation.proofs.Alone.{trace, run-trace}
@@ -76,14 +78,14 @@ mapping o name group = editOf o Mapping (rowBytes (rowFields Mapping) ((3 ∷ []
 abbrev pub createMapping : List ℕ → List ℕ → Edit
 createMapping name group = mapping Create name group
 
-abbrev changeMapping : List ℕ → List ℕ → Edit
+abbrev pub changeMapping : List ℕ → List ℕ → Edit
 changeMapping name group = mapping Change name group
 
-abbrev removeMapping : List ℕ → Edit
+abbrev pub removeMapping : List ℕ → Edit
 removeMapping name = editOf Remove Mapping (rowBytes (keyFields Mapping) ((3 ∷ []) ∷ name ∷ []))
 
 -- of any context, any model, level 1 and above
-abbrev access : Operation → List ℕ → List ℕ → List ℕ → List ℕ → Edit
+abbrev pub access : Operation → List ℕ → List ℕ → List ℕ → List ℕ → Edit
 access o group read write notify =
     editOf o Access
     (rowBytes (rowFields Access)
@@ -104,7 +106,7 @@ abbrev pub principal : List ℕ → Caller
 principal name = record { securityModel = 3; securityName = name; securityLevel = 2 }
 
 -- ann asks, in the empty context: viewType 1 is read, 2 write, 3 notify
-abbrev annAsks : ℕ → Call
+abbrev pub annAsks : ℕ → Call
 annAsks viewType = ask (asked 3 ann 2 viewType [] (internet (2 ∷ 1 ∷ [])))
 
 -- ---- what a list is told, from no rows, and whether it meets the conditions
@@ -113,6 +115,7 @@ unfoldable pub tells : List Call → List Told
 unfolding trace step ownerEdit ownerJudged principalEdit principalJudged judgementAt legalEdit legalCaller rowFault isFull applied mayPut mayRemove
     indexOfEdit keyFields rowFields faults sequenceFault integerFault legalRequest decision bearsContext mapsPrincipal contextFits candidate
     chosenAccess viewFor inView maskBit agrees matches chosenView same before begins walkOn legalWalk authority nextInstance follows mayRead least
+    principalSet setJudged isSet sameKey keyLegal keyBytes fronts span orNext roomAfter
 tells cs = trace noRows cs
 
 abbrev pub numbers : List Told → List ℕ
@@ -122,6 +125,7 @@ abbrev pub noWalk : Call → Bool
 noWalk (ask q) = true
 noWalk (owner e) = true
 noWalk (by c e) = true
+noWalk (bySet c es) = true
 noWalk (walk c identifier) = false
 
 -- members-inside, members-grouped, views-chosen, never-full, others-refused; and that nobody walks, so that walks-confined asks nothing
@@ -138,23 +142,23 @@ meets ts =
 abbrev pub fiveMet : Bool → List Bool
 fiveMet still = true ∷ true ∷ true ∷ true ∷ true ∷ still ∷ []
 
-abbrev allMet : List Bool
+abbrev pub allMet : List Bool
 allMet = fiveMet true
 
 -- all but one
-abbrev notInside : List Bool
+abbrev pub notInside : List Bool
 notInside = false ∷ true ∷ true ∷ true ∷ true ∷ true ∷ []
 
-abbrev notGrouped : List Bool
+abbrev pub notGrouped : List Bool
 notGrouped = true ∷ false ∷ true ∷ true ∷ true ∷ true ∷ []
 
-abbrev notChosen : List Bool
+abbrev pub notChosen : List Bool
 notChosen = true ∷ true ∷ false ∷ true ∷ true ∷ true ∷ []
 
-abbrev onceFull : List Bool
+abbrev pub onceFull : List Bool
 onceFull = true ∷ true ∷ true ∷ false ∷ true ∷ true ∷ []
 
-abbrev onceAccepted : List Bool
+abbrev pub onceAccepted : List Bool
 onceAccepted = true ∷ true ∷ true ∷ true ∷ false ∷ true ∷ []
 
 -- two lists with the same shared calls, which conditions each of them meets, and what the shared calls are told in each
@@ -174,14 +178,15 @@ pub confined-one : (t : Tables) (c : Call) → noWalk c ≡ true → Confined ci
 confined-one t (ask q) h = tt
 confined-one t (owner e) h = tt
 confined-one t (by c e) h = tt
+confined-one t (bySet c es) h = tt
 confined-one t (walk c identifier) h = clash h refl
 
-confined-none : (t : Tables) (cs : List Call) → every noWalk cs ≡ true → ConfinedAll t cs
+pub confined-none : (t : Tables) (cs : List Call) → every noWalk cs ≡ true → ConfinedAll t cs
 confined-none t [] h = tt
 confined-none t (c ∷ cs) h = (confined-one t c (and-left _ _ h), confined-none (step t c .1) cs (and-right (noWalk c) _ h))
 
 -- the owner sets up the circle
-abbrev start : List Call
+abbrev pub start : List Call
 start =
     owner (createContext [])
     ∷ owner (createMapping ann leads)
@@ -261,7 +266,7 @@ inside-counts = record { same-calls = refl; one-meets = refl; other-meets = refl
 abbrev strayed : List Call → List Call
 strayed others = start ++ owner (changeMapping ann train) ∷ others ++ annAsks 1 ∷ []
 
-abbrev trainReads : List Call
+abbrev pub trainReads : List Call
 trainReads = owner (createAccess train all [] []) ∷ []
 
 change-grouped-counts : Shown (strayed []) (strayed trainReads)
@@ -289,7 +294,7 @@ unchosen read write notify viewType others =
     ∷ owner (createAccess leads read write notify)
     ∷ (others ++ annAsks viewType ∷ [])
 
-abbrev baseView : List Call
+abbrev pub baseView : List Call
 baseView = owner (createView base (internet []) 1) ∷ []
 
 read-counts : Shown (unchosen base [] [] 1 []) (unchosen base [] [] 1 baseView)
@@ -392,16 +397,25 @@ octets-every [] h i = omega arith
 octets-every (x ∷ v) h zero = ltb-true x 256 (and-left _ _ h)
 octets-every (x ∷ v) h (suc i) = octets-every v (and-right (ltb x 256) _ h) i
 
+abbrev bytesOnly : Edit → Bool
+bytesOnly e = every (λ x. ltb x 256) (e .bytes)
+
+octets-all : (es : List Edit) → every bytesOnly es ≡ true → AllOctets es
+octets-all [] h = tt
+octets-all (e ∷ es) h = (octets-every (e .bytes) (and-left _ _ h), octets-all es (and-right (bytesOnly e) _ h))
+
 abbrev handsBytes : Call → Bool
 handsBytes (ask q) = true
-handsBytes (owner e) = every (λ x. ltb x 256) (e .bytes)
-handsBytes (by c e) = every (λ x. ltb x 256) (e .bytes)
+handsBytes (owner e) = bytesOnly e
+handsBytes (by c e) = bytesOnly e
+handsBytes (bySet c es) = every bytesOnly es
 handsBytes (walk c identifier) = true
 
 hands-octets : (c : Call) → handsBytes c ≡ true → HandsOctets c
 hands-octets (ask q) h = tt
 hands-octets (owner e) h = octets-every (e .bytes) h
 hands-octets (by c e) h = octets-every (e .bytes) h
+hands-octets (bySet c es) h = octets-all es h
 hands-octets (walk c identifier) h = tt
 
 pub all-hand-octets : (cs : List Call) → every handsBytes cs ≡ true → AllHandOctets cs

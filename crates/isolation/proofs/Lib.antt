@@ -5,6 +5,7 @@ pub mod Edits
 pub mod Asks
 pub mod OwnerEdits
 pub mod PrincipalEdits
+pub mod Sets
 pub mod Walks
 pub mod Steps
 pub mod Alone
@@ -13,3 +14,4 @@ pub mod Numbers
 pub mod Runs
 pub mod Examples
 pub mod WalkExamples
+pub mod SetExamples

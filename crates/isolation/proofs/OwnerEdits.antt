@@ -8,7 +8,7 @@ use Rattle.rows.specs.Tables.{Tables}
 use Rattle.edit_rules.specs.declared.Edited.the-variants.{Faulty}
 use Rattle.edit_rules.specs.Edits.{Edit, legalEdit, faulted, settled}
 use Rattle.edits.specs.Calls.{ownerJudged, ownerEdit}
-use Rattle.edits.specs.Does.{edited}
+use Rattle.calls.specs.Does.{edited}
 use Rattle.isolation.specs.Isolation.{Circle, ofCircle, findsRoom}
 use Rattle.isolation.proofs.Circles.{circleRows, Orderly}
 use Rattle.isolation.proofs.Edits.{circleOf, fault-circle, settled-in, settled-out, fits, settled-orderly}
@@ -27,6 +27,6 @@ module _ (w : Circle) (t : Tables) (e : Edit) where
   unfolding ownerEdit
   owner-other h = settled-out w t e h (ownerJudged t e)
 
-  pub owner-orderly : fits w t e ≡ true → Orderly w t → Orderly w (ownerEdit t e .rows)
+  pub owner-orderly : fits w e ≡ true → Orderly w t → Orderly w (ownerEdit t e .rows)
   unfolding ownerEdit
   owner-orderly f i = settled-orderly w t e f i (ownerJudged t e)

@@ -15,7 +15,7 @@ use Rattle.edit_rules.specs.Edits.{Edit, Caller, shapeOf, indexOfEdit, legalEdi
 use Rattle.edit_rules.specs.Edits.{faulted, settled}
 use Rattle.edit_rules.proofs.Refusals.{refusals-same}
 use Rattle.edits.specs.Calls.{allowed, principalJudged, principalEdit}
-use Rattle.edits.specs.Does.{by, edited}
+use Rattle.calls.specs.Does.{by, edited}
 use Rattle.isolation.specs.Isolation.{Circle, ofCircle, isMember, findsRoom, othersRefused}
 use Rattle.isolation.proofs.Circles.{implied, circleRows, Orderly}
 use Rattle.isolation.proofs.Decisions.{decision-keep}
@@ -30,7 +30,7 @@ module _ (w : Circle) (t : Tables) (c : Caller) (e : Edit) where
       (asked (c .securityModel) (c .securityName) (c .securityLevel) write [] (instance (e .table) column (indexOfEdit e))) m)
       (columnsWritten (shapeOf (e .operation)) (e .table))
 
-  judged-circle : Orderly w t → isMember w c ≡ true → ofCircle w e ≡ true → principalJudged (circleRows w t) c e ≡ principalJudged t c e
+  pub judged-circle : Orderly w t → isMember w c ≡ true → ofCircle w e ≡ true → principalJudged (circleRows w t) c e ≡ principalJudged t c e
   unfolding principalJudged
   judged-circle i m h =
       ap₂ (λ d f. cond (legalCaller c && legalEdit e) (cond (isContext (e .table)) (Faulty ContextTable) (allowed d (faulted f))) (Faulty OutOfRange))
@@ -53,7 +53,7 @@ module _ (w : Circle) (t : Tables) (c : Caller) (e : Edit) where
   others-other m r =
       split (ofCircle w e) (λ o. ap (circleRows w) (others-left m o r)) (λ o. settled-out w t e o (principalJudged t c e))
 
-  pub member-orderly : fits w t e ≡ true → Orderly w t → Orderly w (principalEdit t c e .rows)
+  pub member-orderly : fits w e ≡ true → Orderly w t → Orderly w (principalEdit t c e .rows)
   unfolding principalEdit
   member-orderly f i = settled-orderly w t e f i (principalJudged t c e)
 

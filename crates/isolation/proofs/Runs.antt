@@ -1,9 +1,9 @@
--- For every store and every list of calls there is a run: call by call, each on what the one before it left (`Existence` of crate `edits`).
+-- For every store and every list of calls there is a run: call by call, each on what the one before it left (`Existence` of crate `calls`).
 -- Assumes nothing.
 use mathlib.Core.Path.{refl, ap}
 use mathlib.Core.List.{List, [], _∷_}
-use Rattle.edits.specs.Does.{Call}
-use Rattle.edits.proofs.Existence.{Done, call-done}
+use Rattle.calls.specs.Does.{Call}
+use Rattle.calls.proofs.Existence.{Done, call-done}
 use Rattle.isolation.specs.Isolation.{done, more}
 use Rattle.isolation.specs.Runs.{EveryListRuns, RunOf}
 

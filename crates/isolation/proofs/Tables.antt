@@ -12,12 +12,13 @@ use lib.ListN.{length}
 use Rattle.numbers.specs.Lists.{keep, every, first, find}
 use Rattle.numbers.specs.Order.{same, before}
 use Rattle.numbers.proofs.Bools.{split, clash, and-left, and-right}
-use Rattle.numbers.proofs.Orders.{same-true, before-not-same, before-total}
+use Rattle.numbers.proofs.Orders.{same-true, before-not-same}
 use Rattle.numbers.proofs.Keeps.{keep-keep, find-first}
 use Rattle.numbers.proofs.Greatest.{Under, Ascends, under-trans, under-keep}
 use Rattle.rows.specs.declared.Shape.{Shape}
 use Rattle.rows.specs.declared.Shape.the-variants.{Row, Key}
 use Rattle.table_update.specs.Tables.{rowAt, putRow, removeRow}
+use Rattle.table_update.proofs.RowsAt.{ascends-put, ascends-remove}
 use Rattle.edit_rules.specs.Edits.{rowsAfter}
 use Rattle.isolation.specs.Isolation.{isRow}
 
@@ -31,34 +32,6 @@ module _ {A : Type 0} where
       let ih : length (keep p xs) ≤ length xs = length-keep p xs in split (p x) (λ e. rw e (omega arith)) (λ e. rw e (omega arith))
 
 module _ {R : Type 0} (indexOf : R → List ℕ) where
-  -- the order
-  under-put : (i : List ℕ) (r : R) (xs : List R) → before i (indexOf r) ≡ true → Under indexOf i xs → Under indexOf i (putRow indexOf r xs)
-  under-put i r [] h u = (h, tt)
-  under-put i r (x ∷ xs) h u =
-      let ih : Under indexOf i (putRow indexOf r xs) = under-put i r xs h (u .1) in
-      split (same (indexOf r) (indexOf x)) (λ e. rw e (h, u .1))
-      (λ e. split (before (indexOf r) (indexOf x)) (λ l. rw (e, l) (h, u)) (λ l. rw (e, l) (u .0, ih)))
-
-  pub ascends-put : (r : R) (xs : List R) → Ascends indexOf xs → Ascends indexOf (putRow indexOf r xs)
-  ascends-put r [] a = (tt, tt)
-  ascends-put r (x ∷ xs) a =
-      let ih : Ascends indexOf (putRow indexOf r xs) = ascends-put r xs (a .1) in
-      split (same (indexOf r) (indexOf x)) (λ e. rw e (rw (same-true (indexOf r) (indexOf x) e) (a .0), a .1))
-      (λ e. split (before (indexOf r) (indexOf x)) (λ l. rw (e, l) ((l, under-trans indexOf _ _ xs l (a .0)), a))
-      (λ l. rw (e, l) (under-put (indexOf x) r xs (before-total _ _ e l) (a .0), ih)))
-
-  under-remove : (j i : List ℕ) (xs : List R) → Under indexOf j xs → Under indexOf j (removeRow indexOf i xs)
-  under-remove j i [] u = tt
-  under-remove j i (x ∷ xs) u =
-      let ih : Under indexOf j (removeRow indexOf i xs) = under-remove j i xs (u .1) in
-      split (same i (indexOf x)) (λ e. rw e (u .1)) (λ e. rw e (u .0, ih))
-
-  pub ascends-remove : (i : List ℕ) (xs : List R) → Ascends indexOf xs → Ascends indexOf (removeRow indexOf i xs)
-  ascends-remove i [] a = tt
-  ascends-remove i (x ∷ xs) a =
-      let ih : Ascends indexOf (removeRow indexOf i xs) = ascends-remove i xs (a .1) in
-      split (same i (indexOf x)) (λ e. rw e (a .1)) (λ e. rw e (under-remove (indexOf x) i xs (a .0), ih))
-
   -- what holds of every row
   pub every-put : (g : R → Bool) (r : R) (xs : List R) → g r ≡ true → every g xs ≡ true → every g (putRow indexOf r xs) ≡ true
   every-put g r [] h a = rw h
@@ -142,8 +115,8 @@ module _ {R : Type 0} (indexOf : R → List ℕ) where
 
   -- its order, and what holds of every row
   pub ascends-after : (y : Shape) (r : R) (i : List ℕ) (xs : List R) → Ascends indexOf xs → Ascends indexOf (rowsAfter indexOf y r i xs)
-  ascends-after Row r i xs a = ascends-put r xs a
-  ascends-after Key r i xs a = ascends-remove i xs a
+  ascends-after Row r i xs a = ascends-put indexOf r xs a
+  ascends-after Key r i xs a = ascends-remove indexOf i xs a
 
   pub every-after : (g : R → Bool) (y : Shape) (r : R) (i : List ℕ) (xs : List R) → (isRow y ≡ true → g r ≡ true) → every g xs ≡ true
       → every g (rowsAfter indexOf y r i xs) ≡ true

@@ -23,8 +23,8 @@ use Rattle.decision_steps.specs.Decision.{maskBit, agrees, matches, chosenView,
 use Rattle.decision_steps.proofs.Parts.{decision-parts}
 use Rattle.instance_encode.specs.Instances.{instance}
 use Rattle.walk_rules.specs.Walk.{isAllowed, mayRead}
-use Rattle.edits.specs.Does.{Call, owner, by, walk, decided, edited, walked}
-use Rattle.edits.proofs.Steps.{step}
+use Rattle.calls.specs.Does.{Call, owner, by, walk, decided, edited, setEdited, walked}
+use Rattle.calls.proofs.Steps.{step}
 use Rattle.isolation.specs.Isolation.{Told, calls, Run, Fresh, picked, keyIn, RefusesOutside, Conditions}
 use Rattle.isolation.specs.Runs.{RunOf}
 use Rattle.isolation.proofs.Runs.{every-list-runs}
@@ -46,6 +46,7 @@ annWalks is = map (λ i. walk (principal ann) i) is
 abbrev reached : Told → List ℕ
 reached (c, decided a) = []
 reached (c, edited r) = []
+reached (c, setEdited r) = []
 reached (c, walked w) = w .identifier
 
 -- ann is mapped and may read by view "all", of which rows follow

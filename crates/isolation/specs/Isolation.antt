@@ -1,6 +1,6 @@
 -- Demand 3 of the mission: "Nobody who had no edit accepted inside a group's circle can change what its members are told."
 -- Words in quotation marks are the mission's, or document 01's ("The two lists of demand 3") or 02's where that is said. "Circle", "member call",
--- "shared calls" and "answer" are document 01's own terms. The calls and what each of them does are those of `edits/specs/Does.antt`: the
+-- "shared calls" and "answer" are document 01's own terms. The calls and what each of them does are those of `calls/specs/Does.antt`: the
 -- propositions that the calls' contracts cite. Assumes nothing.
 use mathlib.Core.Path.{_≡_}
 use mathlib.Core.Bool.{Bool, true, false, not, _&&_, _||_}
@@ -9,7 +9,7 @@ use mathlib.Core.Option.{some}
 use Prim.Native.Nat.{ℕ}
 use lib.Dec.{eqb}
 use Rattle.numbers.specs.BigEndian.{Octets}
-use Rattle.numbers.specs.Lists.{keep, every}
+use Rattle.numbers.specs.Lists.{keep, every, any}
 use Rattle.numbers.specs.Order.{same}
 use Rattle.rows.specs.declared.Shape.{Shape}
 use Rattle.rows.specs.declared.Shape.the-variants.{Row, Key}
@@ -24,7 +24,7 @@ use Rattle.table_update.specs.Tables.{rowAt}
 use Rattle.edit_rules.specs.Edits.{Edit, Caller, shapeOf, isCreate}
 use Rattle.edit_rules.specs.TableRows.{RowOf, rowOf, valuesOf, contextIndex, mappingIndex, accessIndex, viewIndex}
 use Rattle.walk_rules.specs.Walk.{mayRead}
-use Rattle.edits.specs.Does.{Call, ask, owner, by, walk, Reply, replyNumber, Does}
+use Rattle.calls.specs.Does.{Call, ask, owner, by, bySet, walk, Reply, replyNumber, Does}
 
 -- ---- "Take every two lists of decision requests and edits, refused ones included, .."
 
@@ -90,11 +90,13 @@ abbrev pub isMember : Circle → Caller → Bool
 isMember w c = w .member (c .securityModel) (c .securityName)
 
 -- Document 01: "A member call is a decision request or an edit made with a member's model and security name, at whatever level."
--- "The shared calls are the member calls and the owner's edits of the circle." Document 02's ticket 1 makes a member's walk one of them.
+-- "The shared calls are the member calls and the owner's edits of the circle." Document 02 makes a member's walk one of them (ticket 1), and a member's
+-- set of edits (ticket 7).
 abbrev pub shared : Circle → Call → Bool
 shared w (ask q) = w .member (q .securityModel) (q .securityName)
 shared w (owner e) = ofCircle w e
 shared w (by c e) = isMember w c
+shared w (bySet c es) = isMember w c
 shared w (walk c identifier) = isMember w c
 
 -- picked out of a list in order, each with its answer
@@ -106,18 +108,20 @@ picked w ts = keep (λ (t : Told). shared w (t .0)) ts
 abbrev pub implies : Bool → Bool → Bool
 implies a b = not a || b
 
--- "Let every member's edit in both be of a circle row."
+-- "Let every member's edit in both be of a circle row." Document 02, ticket 7: "A member's set belongs to the circle's lists when all its rows do".
 abbrev pub staysInside : Circle → Call → Bool
 staysInside w (ask q) = true
 staysInside w (owner e) = true
 staysInside w (by c e) = implies (isMember w c) (ofCircle w e)
+staysInside w (bySet c es) = implies (isMember w c) (every (ofCircle w) es)
 staysInside w (walk c identifier) = true
 
--- "Let the members' and the owner's edits of the circle" pass a test:
+-- "Let the members' and the owner's edits of the circle" pass a test: of a set, each of its edits
 abbrev pub insidersEdit : Circle → (Edit → Bool) → Call → Bool
 insidersEdit w test (ask q) = true
 insidersEdit w test (owner e) = implies (ofCircle w e) (test e)
 insidersEdit w test (by c e) = implies (isMember w c && ofCircle w e) (test e)
+insidersEdit w test (bySet c es) = implies (isMember w c) (every (λ e. implies (ofCircle w e) (test e)) es)
 insidersEdit w test (walk c identifier) = true
 
 -- the row that an edit is handed passes a test. Document 01: "A removal is handed a key alone and breaks neither" condition.
@@ -152,15 +156,17 @@ abbrev pub keepsToViews : Circle → Edit → Bool
 keepsToViews w e = handsSuch (givesChosen w) e
 
 -- ".. and none of their puts there be answered 'table full' ..": 9, the number of no other case of an edit's answer. Document 02, ticket 6: "Where the
--- circle's condition says put, it now says create."
+-- circle's condition says put, it now says create." Ticket 7: "a member's set answered 9 breaks the same condition as a single create"; it has one.
 abbrev pub findsRoom : Reply → Edit → Bool
 findsRoom r e = implies (isCreate (e .operation)) (not (eqb (replyNumber r) 9))
 
--- "Let other principals have no edit accepted in the circle ..": 0, likewise
+-- "Let other principals have no edit accepted in the circle ..": 0, likewise. Document 02, ticket 7: "an accepted set of another principal counts there
+-- as an accepted edit of each of its rows".
 abbrev pub othersRefused : Circle → Call → Reply → Bool
 othersRefused w (ask q) r = true
 othersRefused w (owner e) r = true
 othersRefused w (by c e) r = implies (not (isMember w c) && ofCircle w e) (not (eqb (replyNumber r) 0))
+othersRefused w (bySet c es) r = implies (not (isMember w c) && any (ofCircle w) es) (not (eqb (replyNumber r) 0))
 othersRefused w (walk c identifier) r = true
 
 -- Document 02, ticket 1: "when the member's view refuses every instance outside the circle, held or not": of every table, legal key and listed
@@ -174,6 +180,7 @@ abbrev pub Confined : Circle → Tables → Call → Type 0
 Confined w ts (ask q) = Unit {0}
 Confined w ts (owner e) = Unit {0}
 Confined w ts (by c e) = Unit {0}
+Confined w ts (bySet c es) = Unit {0}
 Confined w ts (walk c identifier) = isMember w c ≡ true → RefusesOutside w ts c
 
 abbrev pub WalksConfined : Circle → {s end : List ℕ} {ts : List Told} → Run s ts end → Type 0

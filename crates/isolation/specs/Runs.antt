@@ -4,7 +4,7 @@ use mathlib.Core.Path.{_≡_}
 use mathlib.Core.List.{List, [], _∷_}
 use Prim.Native.Nat.{ℕ}
 use Rattle.numbers.specs.BigEndian.{Octets}
-use Rattle.edits.specs.Does.{Call, HandsOctets}
+use Rattle.calls.specs.Does.{Call, HandsOctets}
 use Rattle.isolation.specs.Isolation.{Told, calls, Run}
 
 abbrev pub AllHandOctets : List Call → Type 0

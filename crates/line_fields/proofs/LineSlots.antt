@@ -71,7 +71,7 @@ adds k {at = at} {line = line} bytes parts l e = record {
 
 module _ (b : Bool) {s : Slot} {next at : ℕ} {line bytes bytes' parts parts' : List ℕ} {said : Option Taken} (l : Lent line at bytes parts)
     (a : Adds b s next at line bytes bytes' parts parts' said) where
-  adds-value : said ≡ some (taken (valueIn s (side b bytes' parts')) (wordsFrom next line))
+  pub adds-value : said ≡ some (taken (valueIn s (side b bytes' parts')) (wordsFrom next line))
   adds-value =
       let f = a .lies in
       let e : between (s .from) (s .end) (side b bytes' parts') ≡ f .of =

@@ -84,7 +84,7 @@ fn edit(word: &[u8], line: &[u8], at: usize, bytes: &mut [u8], from: usize) -> F
 }
 
 // The field of a kind that the words from a place on say.
-fn field(k: Kind, line: &[u8], at: usize, bytes: &mut [u8], parts: &mut [u32]) -> Found
+pub fn field(k: Kind, line: &[u8], at: usize, bytes: &mut [u8], parts: &mut [u32]) -> Found
     requires { ⌜ Lent (now line) at (now bytes) (now parts) ⌝ }
     ensures finds { λ r. ⌜ Finds r (4 * at) at (now (line .entry)) (kindSaid k (wordsFrom at (now (line .entry)))) ⌝ }
     ensures lays { λ r. ⌜ buffers (now (bytes .exit)) (now (parts .exit))

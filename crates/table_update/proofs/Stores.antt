@@ -110,7 +110,7 @@ table-position Mapping = refl
 table-position Access = refl
 table-position View = refl
 
-position-inj : (t u : Table) → position t ≡ position u → t ≡ u
+pub position-inj : (t u : Table) → position t ≡ position u → t ≡ u
 position-inj t u e = sym (table-position t) ∙ ap tableAt e ∙ table-position u
 
 -- what holds of each table before, and of table t exchanged, holds of each afterwards

@@ -82,7 +82,7 @@ pub fn seek(w: &[u8], x: Extent, key: &[u8]) -> Place
 }
 
 // A table's place among the tables of an image.
-fn position_of(t: Table) -> usize
+pub fn position_of(t: Table) -> usize
     ensures { λ r. ⌜ r ≡ position t ⌝ }
 {
     match t {

@@ -14,10 +14,9 @@ use Rattle.program_io.specs.Lines.{linesOf, keep, kept}
 use Rattle.program_io.specs.Desk.{newLine, Taken, Opens, Writes, Refills, NextLine, LastLine}
 use Rattle.program_io.proofs.Lines.{kept-one, kept-none, kept-same}
 use Rattle.program_io.proofs.TakenLines.{taken-written, all-written}
-use Rattle.call_verbs.specs.Calls.{lineSaid}
-use Rattle.call_verbs.proofs.Calls.{long-line}
 use Rattle.call_plays.specs.Plays.{Plays}
-use Rattle.call_lines.specs.Lines.{lineText, PutsLine}
+use Rattle.call_lines.specs.Lines.{lineAsks, lineText, PutsLine}
+use Rattle.call_lines.proofs.Lines.{long-asks}
 use Rattle.trycalls.specs.Runs.{Played, Serves, Answers}
 
 -- ---- lists of lines
@@ -27,7 +26,7 @@ unfolding Played
 played-none n found = (refl, refl)
 
 -- a line alone
-played-one : (n : ℕ) (found after line answer : List ℕ) → Plays (lineSaid line) found after answer
+played-one : (n : ℕ) (found after line answer : List ℕ) → Plays (lineAsks line) found after answer
     → Played n found (line ∷ []) (lineText (n + 1) answer) after
 unfolding Played
 played-one n found after line answer p = record {
@@ -66,7 +65,7 @@ played-kept n found after (line ∷ lines) text s =
       next = p .next;
       answer = p .answer;
       later = p .later;
-      plays = rw (kept-same lineSaid none long-line line) at (p .plays);
+      plays = rw (kept-same lineAsks none long-asks line) at (p .plays);
       goes-on = played-kept (n + 1) (p .next) after lines (p .later) (p .goes-on);
       text-is = p .text-is;
     }
@@ -82,11 +81,11 @@ module _ (d : Desk) (line found : List ℕ) where
   }
 
   pub answers-found : {r : Desk} {after w out : List ℕ} {end : ℕ} → d .found ≡ true
-      → PutsLine (lineSaid (take (d .len - 0) line)) (d .number) found after w out end → Writes d r (take (end - 0) out) → Answers d r line found after
+      → PutsLine (lineAsks (take (d .len - 0) line)) (d .number) found after w out end → Writes d r (take (end - 0) out) → Answers d r line found after
   answers-found {r} {after} {w} {out} {end} f s h =
       let z : d .len - 0 ≡ d .len = omega arith in
       let y : end - 0 ≡ end = omega arith in
-      let p : Plays (lineSaid (take (d .len) line)) found after (s .text) = rw z at (s .plays) in
+      let p : Plays (lineAsks (take (d .len) line)) found after (s .text) = rw z at (s .plays) in
       record {
         text = take (end - 0) out;
         writes = h;

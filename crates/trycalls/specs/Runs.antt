@@ -14,10 +14,9 @@ use Rattle.program_io.specs.declared.Desk.{Desk}
 use Rattle.program_io.specs.Files.{TablesFile}
 use Rattle.program_io.specs.Lines.{linesOf}
 use Rattle.program_io.specs.Desk.{Moved, OutputFailed, newLine, Writes}
-use Rattle.call_verbs.specs.Calls.{lineSaid}
 use Rattle.request_lines.specs.Report.{told}
 use Rattle.call_plays.specs.Plays.{Plays}
-use Rattle.call_lines.specs.Lines.{lineText}
+use Rattle.call_lines.specs.Lines.{lineAsks, lineText}
 
 -- ---- lines played one after the other
 
@@ -26,7 +25,7 @@ pub record PlaysFirst (n : ℕ) (found line text : List ℕ) (goesOn : List ℕ 
   pub next : List ℕ
   pub answer : List ℕ
   pub later : List ℕ
-  pub plays : Plays (lineSaid line) found next answer
+  pub plays : Plays (lineAsks line) found next answer
   pub goes-on : goesOn next later
   pub text-is : text ≡ lineText (n + 1) answer ++ later
 

@@ -5,7 +5,7 @@ use borrow.Author.Needs.{needs}
 use Rattle.image.specs.Store.{held}
 use Rattle.decision_steps.specs.Decision.{answer}
 use Rattle.decision.proofs.Answers.{decides}
-use Rattle.edits.specs.Does.{decided, asks}
+use Rattle.calls.specs.Does.{decided, asks}
 use Rattle.line_fields.proofs.RequestSlots.{same-request}
 use Rattle.call_words.proofs.decide.Statement.{statement}
 use Rattle.call_words.proofs.decide.Tie as tie

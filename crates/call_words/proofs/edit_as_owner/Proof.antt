@@ -1,7 +1,7 @@
 -- `call_words::edit_as_owner` meets its contract: the edit is of what the slot holds. Assumes nothing.
 use native.Mathlib.Omega.{arith}
 use borrow.Author.Needs.{needs}
-use Rattle.edits.specs.Does.{edited, owns}
+use Rattle.calls.specs.Does.{edited, owns}
 use Rattle.line_fields.specs.Slots.{slotIn}
 use Rattle.call_words.proofs.Calls.{owner-as}
 use Rattle.call_words.proofs.edit_as_owner.Statement.{statement}

@@ -1,7 +1,7 @@
 -- `call_words::edit_as_principal` meets its contract: the caller and the edit are of what the slots hold. Assumes nothing.
 use native.Mathlib.Omega.{arith}
 use borrow.Author.Needs.{needs}
-use Rattle.edits.specs.Does.{edited, acts}
+use Rattle.calls.specs.Does.{edited, acts}
 use Rattle.line_fields.specs.Slots.{slotIn}
 use Rattle.call_words.proofs.Calls.{principal-as}
 use Rattle.call_words.proofs.edit_as_principal.Statement.{statement}

@@ -13,10 +13,11 @@ use Rattle.numbers.specs.BigEndian.{Octets}
 use Rattle.image_layout.specs.Layout.{layoutOf}
 use Rattle.image_judge.specs.Faults.{tablesAt}
 use Rattle.image.specs.Store.{isSound}
-use Rattle.edit_rules.specs.Edits.{Caller, callerOf, Edit, editOf, shapeOf, indexOfEdit, legalCaller, legalEdit, judgementAt, judgement, isContext}
+use Rattle.edit_rules.specs.Edits.{Caller, callerOf, Edit, editOf, shapeOf, indexOfEdit, legalCaller, legalEdit, judgement, isContext}
 use Rattle.edit_rows.proofs.Stores.{sound-laid, key-within}
 use Rattle.edit_rights.specs.declared.Admission.the-variants.{Granted}
 use Rattle.edit_rights.specs.Admission.{admission}
+use Rattle.edit_rights.specs.Standing.{judgedBy}
 use Rattle.edit_rules.proofs.Keys.{key-part, key-legal, key-index}
 use Rattle.edits.proofs.Calls.{ready, ready-whole, unready-principal, granted-free, caller-illegal, principal-denied, principal-granted}
 use Rattle.edits.proofs.principal_edit.Statement.{statement}
@@ -53,8 +54,11 @@ legal : (e : tie.Else1) → legalCaller (caller (start (ready-at e))) ≡ true
 legal e = sym (e .before .is-caller .ensures) ∙ not-false _ (e .if1 .left)
 
 -- what was admitted or denied is the edit
+abbrev stood-at : tie.After-admit → tie.After-standing-of
+stood-at j = j .before .before .before .before
+
 abbrev legal-at : tie.After-admit → tie.Else1
-legal-at j = j .before .before .before .before
+legal-at j = stood-at j .before .before
 
 admitted : (j : tie.After-admit) → let k = ready-at (legal-at j) in let s = start k in
     j .admit .result ≡ admission (isContext (wanted s .table)) (judgement (tablesAt (s .args .store .now) (k .before .prepared2 .given .0 .0))
@@ -64,12 +68,12 @@ admitted j =
     let k = ready-at (legal-at j) in
     let s = start k in
     let a = s .args in
-    let T = tablesAt (a .store .now) (k .before .prepared2 .given .0 .0) in
     j .admit .ensures
     ∙ ap (admission (isContext (a .t)))
-    (ap₂ (λ y index. judgementAt T (caller s) y (a .t) index) (j .before .shape-of .ensures)
+    (ap₂ (λ y index. judgedBy (a .store .now) (stood-at j .standing-of .result) y (a .t) index) (j .before .shape-of .ensures)
     (ap (indexOf (a .t)) (key-part (a .t) (a .bytes .now) (sym (facts k .3)))
-    ∙ key-index (shapeOf (a .o)) (a .t) (a .bytes .now) (handed-bytes k) (whole k)))
+    ∙ key-index (shapeOf (a .o)) (a .t) (a .bytes .now) (handed-bytes k) (whole k))
+    ∙ stood-at j .standing-of .ensures .judges (shapeOf (a .o)) (a .t) (indexOf (a .t) (a .bytes .now)))
 
 returns : tie.Need-returns
 returns c =
@@ -77,17 +81,21 @@ returns c =
     let k = i .before in
     caller-illegal (caller (start k)) (wanted (start k)) _ (facts k .0) (sym (i .is-caller .ensures) ∙ not-true _ (c .if1 .taken))
 
+standing-of-requires : tie.Need-standing-of-requires
+standing-of-requires c κs = let k = ready-at (c .before) in sound-laid (facts k .0) (facts k .2)
+
 part-key-end : tie.Need-part-key-end
 part-key-end c =
-    let k = ready-at c in
+    let k = ready-at (c .before .before) in
     let a = start k .args in
     omega (arith, key-within (shapeOf (a .o)) (a .t) (a .bytes .now) (whole k), facts k .3)
 
 admit-requires : tie.Need-admit-requires
 admit-requires c κs =
-    let k = ready-at (c .before .before .before) in
+    let z = c .before .before .before in
+    let k = ready-at (z .before .before) in
     let a = start k .args in (
-      sound-laid (facts k .0) (facts k .2),
+      z .standing-of .ensures .lies,
       rw (key-part (a .t) (a .bytes .now) (sym (facts k .3)))
           (key-legal (shapeOf (a .o)) (a .t) (a .bytes .now) (handed-bytes k) (whole k)),
     )
@@ -133,5 +141,5 @@ pub principal-edit-spec : {M : Type 1} → statement M
 principal-edit-spec =
     tie.close
     (tie.spec (λ c κs. search needs) (λ c. search needs) (λ c. search needs) (λ c κs. search needs) (λ c. search needs) returns
-    (λ c. search needs) (λ c. search needs) part-key-end (λ c κs. search needs) admit-requires (λ c. search needs) (λ c. search needs) returns-2
-    (λ c. search needs) edit-requires (λ c. search needs) returns-3 (λ c. search needs) returns-4)
+    standing-of-requires (λ c. search needs) (λ c. search needs) part-key-end (λ c κs. search needs) admit-requires (λ c. search needs)
+    (λ c. search needs) returns-2 (λ c. search needs) edit-requires (λ c. search needs) returns-3 (λ c. search needs) returns-4)

@@ -1,0 +1,3 @@
+pub mod SetWords
+pub mod Reading
+pub mod Buffers
