@@ -24,7 +24,8 @@ use Rattle.edit_rules.specs.Edits.{Edit, Outcome, outcome, shapeOf, isCreate, i
 use Rattle.edit_rules.proofs.Outcomes.{own-index}
 use Rattle.edits.specs.Calls.{editedNumber}
 use Rattle.isolation.specs.Isolation.{Circle, rowIn, ofCircle, implies, handsRow, mapsToGroup, givesChosen, keepsToGroup, keepsToViews}
-use Rattle.isolation.proofs.Tables.{length-keep, rowAt-keep, keep-after-in, keep-after-out, ascends-after, every-after}
+use Rattle.set_rules.proofs.Applied.{ascends-after}
+use Rattle.isolation.proofs.Tables.{length-keep, rowAt-keep, keep-after-in, keep-after-out, every-after}
 use Rattle.isolation.proofs.Circles.{implied, circleRows, rows-circle, with-circle, key-same, rowFits, Orderly, orderly-at, orderly-with}
 
 -- ---- an edit once it is judged

@@ -18,7 +18,6 @@ use Rattle.numbers.proofs.Greatest.{Under, Ascends, under-trans, under-keep}
 use Rattle.rows.specs.declared.Shape.{Shape}
 use Rattle.rows.specs.declared.Shape.the-variants.{Row, Key}
 use Rattle.table_update.specs.Tables.{rowAt, putRow, removeRow}
-use Rattle.table_update.proofs.RowsAt.{ascends-put, ascends-remove}
 use Rattle.edit_rules.specs.Edits.{rowsAfter}
 use Rattle.isolation.specs.Isolation.{isRow}
 
@@ -113,11 +112,7 @@ module _ {R : Type 0} (indexOf : R → List ℕ) where
     keep-after-out Row r i xs e c = keep-put-out r xs (λ x q. c x (sym e ∙ q)) (c r (sym e))
     keep-after-out Key r i xs e c = keep-remove-out i xs c
 
-  -- its order, and what holds of every row
-  pub ascends-after : (y : Shape) (r : R) (i : List ℕ) (xs : List R) → Ascends indexOf xs → Ascends indexOf (rowsAfter indexOf y r i xs)
-  ascends-after Row r i xs a = ascends-put indexOf r xs a
-  ascends-after Key r i xs a = ascends-remove indexOf i xs a
-
+  -- what holds of every row
   pub every-after : (g : R → Bool) (y : Shape) (r : R) (i : List ℕ) (xs : List R) → (isRow y ≡ true → g r ≡ true) → every g xs ≡ true
       → every g (rowsAfter indexOf y r i xs) ≡ true
   every-after g Row r i xs h a = every-put g r xs (h refl) a

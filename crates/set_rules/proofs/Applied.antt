@@ -44,7 +44,7 @@ module _ {R : Type 0} (indexOf : R → List ℕ) where
   rowAt-after Row r i e xs a j = rowAt-put indexOf j r xs ∙ ap (λ k. cond (same j k) (some r) (rowAt indexOf j xs)) e
   rowAt-after Key r i e xs a j = rowAt-remove indexOf i j xs a
 
-  ascends-after : (s : Shape) (r : R) (i : List ℕ) (xs : List R) → Ascends indexOf xs → Ascends indexOf (rowsAfter indexOf s r i xs)
+  pub ascends-after : (s : Shape) (r : R) (i : List ℕ) (xs : List R) → Ascends indexOf xs → Ascends indexOf (rowsAfter indexOf s r i xs)
   ascends-after Row r i xs a = ascends-put indexOf r xs a
   ascends-after Key r i xs a = ascends-remove indexOf i xs a
 

@@ -1,3 +1,4 @@
+pub mod Examples
 pub mod Keys
 pub mod Applied
 pub mod Order
