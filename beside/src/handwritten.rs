@@ -184,34 +184,41 @@ unsafe fn ascends(a: At, a_length: usize, b: At, b_length: usize) -> bool {
 /// Where the row's key ends.
 #[inline(always)]
 unsafe fn judge_row<const TABLE: usize>(row: At, end: At) -> Result<At, u32> {
-    let (key, at) = match TABLE {
-        0 => {
-            let key = octets(row, end, 0, 32)?;
-            (key, key)
-        }
-        1 => {
-            let key = octets(model(row, end, 1)?, end, 1, 32)?;
-            let at = octets(key, end, 1, 32)?;
-            (key, number(number(at, end, 2, 5)?, end, 1, 2)?)
-        }
-        2 => {
-            let at = octets(octets(row, end, 1, 32)?, end, 0, 32)?;
-            let key = number(model(at, end, 0)?, end, 1, 3)?;
-            let at = octets(number(key, end, 1, 2)?, end, 0, 32)?;
-            let at = octets(octets(at, end, 0, 32)?, end, 0, 32)?;
-            (key, number(number(at, end, 2, 5)?, end, 1, 2)?)
-        }
-        _ => {
-            let key = subtree(octets(row, end, 1, 32)?, end)?;
-            let at = number(octets(key, end, 0, 16)?, end, 1, 2)?;
-            (key, number(number(at, end, 2, 5)?, end, 1, 2)?)
-        }
-    };
-    if at == end {
+    let key = judge_key::<TABLE>(row, end)?;
+    if judge_rest::<TABLE>(key, end)? == end {
         Ok(key)
     } else {
         Err(14)
     }
+}
+
+/// Where the key at the front of a row ends, whatever follows it.
+#[inline(always)]
+unsafe fn judge_key<const TABLE: usize>(row: At, end: At) -> Result<At, u32> {
+    match TABLE {
+        0 => octets(row, end, 0, 32),
+        1 => octets(model(row, end, 1)?, end, 1, 32),
+        2 => {
+            let at = octets(octets(row, end, 1, 32)?, end, 0, 32)?;
+            number(model(at, end, 0)?, end, 1, 3)
+        }
+        _ => subtree(octets(row, end, 1, 32)?, end),
+    }
+}
+
+/// Where the fields behind the key end.
+#[inline(always)]
+unsafe fn judge_rest<const TABLE: usize>(key: At, end: At) -> Result<At, u32> {
+    let at = match TABLE {
+        0 => return Ok(key),
+        1 => octets(key, end, 1, 32)?,
+        2 => {
+            let at = octets(number(key, end, 1, 2)?, end, 0, 32)?;
+            octets(octets(at, end, 0, 32)?, end, 0, 32)?
+        }
+        _ => number(octets(key, end, 0, 16)?, end, 1, 2)?,
+    };
+    number(number(at, end, 2, 5)?, end, 1, 2)
 }
 
 #[inline(always)]
@@ -1008,23 +1015,36 @@ fn row_key(table: usize, row: &[u8]) -> Option<usize> {
     key.ok().map(|key| key as usize - bounds.start as usize)
 }
 
-fn legal_key(table: usize, key: &[u8]) -> bool {
-    let bounds = key.as_ptr_range();
-    let end = bounds.end;
-    // SAFETY: the bounds are the key's own.
-    let judged = unsafe {
+/// The length of a legal key at the front of some bytes.
+fn key_front(table: usize, bytes: &[u8]) -> Option<usize> {
+    let bounds = bytes.as_ptr_range();
+    // SAFETY: the bounds are the bytes' own.
+    let key = unsafe {
         match table {
-            0 => octets(bounds.start, end, 0, 32),
-            1 => model(bounds.start, end, 1).and_then(|at| octets(at, end, 1, 32)),
-            2 => octets(bounds.start, end, 1, 32)
-                .and_then(|at| octets(at, end, 0, 32))
-                .and_then(|at| model(at, end, 0))
-                .and_then(|at| number(at, end, 1, 3)),
-            3 => octets(bounds.start, end, 1, 32).and_then(|at| subtree(at, end)),
-            _ => Err(7),
+            0 => judge_key::<0>(bounds.start, bounds.end),
+            1 => judge_key::<1>(bounds.start, bounds.end),
+            2 => judge_key::<2>(bounds.start, bounds.end),
+            3 => judge_key::<3>(bounds.start, bounds.end),
+            _ => return None,
         }
     };
-    judged == Ok(end)
+    key.ok().map(|key| key as usize - bounds.start as usize)
+}
+
+/// Whether bytes with a legal key of this length at their front are a legal row.
+fn is_row(table: usize, bytes: &[u8], key: usize) -> bool {
+    let end = bytes.as_ptr_range().end;
+    // SAFETY: the bounds are within the bytes' own.
+    let rest = unsafe {
+        let at = bytes[key..].as_ptr();
+        match table {
+            0 => judge_rest::<0>(at, end),
+            1 => judge_rest::<1>(at, end),
+            2 => judge_rest::<2>(at, end),
+            _ => judge_rest::<3>(at, end),
+        }
+    };
+    rest == Ok(end)
 }
 
 /// Where the row with a key is or would come: its number among all rows, where it begins, and its length if it is held.
@@ -1044,36 +1064,54 @@ unsafe fn spot(bytes: At, layout: &Layout, table: usize, key: &[u8]) -> Spot {
     Spot { number, byte, held: is_held.then(|| layout.start(number + 1) - byte) }
 }
 
+/// Room for a row is made behind the row before it: the rows behind move by the row and its length, those before it by the length alone.
 #[inline(always)]
-fn create_at(store: &mut [u8], layout: &Layout, table: usize, spot: Spot, row: &[u8]) -> u32 {
-    let Spot { number, byte, .. } = spot;
-    let count = layout.row[table + 1] - layout.row[table];
-    if count == LIMITS[table] {
-        return 9;
-    }
-    // SAFETY: the survey has passed.
-    let end = unsafe { layout.start(layout.row[4]) };
-    // the rows behind move by the row and its length, those before it by the length alone
+fn insert(store: &mut [u8], table: usize, number: usize, byte: usize, end: usize, row: &[u8]) {
     let length_at = 8 + 2 * number;
     store.copy_within(byte..end, byte + 2 + row.len());
     store.copy_within(length_at..byte, length_at + 2);
     store[byte + 2..byte + 2 + row.len()].copy_from_slice(row);
     set_16(store, length_at, row.len());
+    let count = 256 * store[2 * table] as usize + store[2 * table + 1] as usize;
     set_16(store, 2 * table, count + 1);
+}
+
+/// The row at a place has this length.
+#[inline(always)]
+fn replace(store: &mut [u8], number: usize, byte: usize, length: usize, end: usize, row: &[u8]) {
+    if length != row.len() {
+        store.copy_within(byte + length..end, byte + row.len());
+        set_16(store, 8 + 2 * number, row.len());
+    }
+    store[byte..byte + row.len()].copy_from_slice(row);
+}
+
+#[inline(always)]
+fn take_out(store: &mut [u8], table: usize, number: usize, byte: usize, length: usize, end: usize) {
+    let length_at = 8 + 2 * number;
+    store.copy_within(length_at + 2..byte, length_at);
+    store.copy_within(byte + length..end, byte - 2);
+    let count = 256 * store[2 * table] as usize + store[2 * table + 1] as usize;
+    set_16(store, 2 * table, count - 1);
+}
+
+#[inline(always)]
+fn create_at(store: &mut [u8], layout: &Layout, table: usize, spot: Spot, row: &[u8]) -> u32 {
+    if layout.row[table + 1] - layout.row[table] == LIMITS[table] {
+        return 9;
+    }
+    // SAFETY: the survey has passed.
+    let end = unsafe { layout.start(layout.row[4]) };
+    insert(store, table, spot.number, spot.byte, end, row);
     0
 }
 
 /// The row held at the spot has this length.
 #[inline(always)]
 fn change_at(store: &mut [u8], layout: &Layout, spot: Spot, length: usize, row: &[u8]) -> u32 {
-    let Spot { number, byte, .. } = spot;
-    if length != row.len() {
-        // SAFETY: the survey has passed.
-        let end = unsafe { layout.start(layout.row[4]) };
-        store.copy_within(byte + length..end, byte + row.len());
-        set_16(store, 8 + 2 * number, row.len());
-    }
-    store[byte..byte + row.len()].copy_from_slice(row);
+    // SAFETY: the survey has passed.
+    let end = unsafe { layout.start(layout.row[4]) };
+    replace(store, spot.number, spot.byte, length, end, row);
     0
 }
 
@@ -1110,19 +1148,24 @@ fn owner_row<const CREATE: bool>(store: &mut [u8], table: u32, row: &[u8]) -> u3
     }
 }
 
+// What an edit does, by its number.
+const CREATE: u32 = 0;
+const CHANGE: u32 = 1;
+const REMOVE: u32 = 2;
+
 #[inline(never)]
 pub fn principal_create(store: &mut [u8], model: u32, name: &[u8], level: u32, table: u32, row: &[u8]) -> u32 {
-    principal_row::<true>(store, model, name, level, table, row)
+    principal_row(store, model, name, level, CREATE, table, row)
 }
 
 #[inline(never)]
 pub fn principal_change(store: &mut [u8], model: u32, name: &[u8], level: u32, table: u32, row: &[u8]) -> u32 {
-    principal_row::<false>(store, model, name, level, table, row)
+    principal_row(store, model, name, level, CHANGE, table, row)
 }
 
-/// A create or a change that the principal may make at every column, and that the storage of the row held and of the new one lets it make.
+/// The principal's create, or its change.
 #[inline(always)]
-fn principal_row<const CREATE: bool>(store: &mut [u8], model: u32, name: &[u8], level: u32, table: u32, row: &[u8]) -> u32 {
+fn principal_row(store: &mut [u8], model: u32, name: &[u8], level: u32, operation: u32, table: u32, row: &[u8]) -> u32 {
     let mut layout = Layout::new();
     match judge_store(store, &mut layout) {
         0 => {}
@@ -1136,59 +1179,94 @@ fn principal_row<const CREATE: bool>(store: &mut [u8], model: u32, name: &[u8], 
     if table == 0 {
         return 12;
     }
-    // SAFETY: the store was judged, the caller is in range and the key is legal.
+    // SAFETY: the store was judged, the caller is in range and the row is legal.
     let spot = unsafe {
-        match written_columns(store.as_ptr(), &layout, &Request { model, name, level, kind: 2, context: &[] }, table, key) {
-            0 => {}
-            cause => return cause,
-        }
-        spot(store.as_ptr(), &layout, table, key)
+        let bytes = store.as_ptr();
+        let written = written_view(bytes, &layout, &Request { model, name, level, kind: 2, context: &[] });
+        judge_edit(bytes, &layout, &written, operation, table, row, key)
     };
-    let given = row[row.len() - 2];
+    match spot {
+        Err(refusal) => refusal,
+        Ok(spot) => match spot.held {
+            None => create_at(store, &layout, table, spot, row),
+            Some(length) => change_at(store, &layout, spot, length, row),
+        },
+    }
+}
+
+/// The view that a caller writes by, and the numbers of its rows.
+struct Written<'a> {
+    view: &'a [u8],
+    rows: Range<usize>,
+}
+
+/// Steps 1 to 4, which are the same for every row and column. The error is a cause's number.
+#[inline(always)]
+unsafe fn written_view<'a>(bytes: At, layout: &Layout, request: &Request) -> Result<Written<'a>, u32> {
+    let view = named_view(bytes, layout, request, &mut Picked::default())?;
+    let rows = rows_of_view(bytes, layout, view);
+    if !rows.clone().any(|i| is_active(bytes, layout, i)) {
+        return Err(4);
+    }
+    Ok(Written { view, rows })
+}
+
+/// An edit of a row that is legal and no context, in all but room: the cause, whether the row is held, and the storage of the row held and of
+/// the new one. Where the row is or would come; a refusal's number is the error.
+#[inline(always)]
+unsafe fn judge_edit(
+    bytes: At,
+    layout: &Layout,
+    written: &Result<Written, u32>,
+    operation: u32,
+    table: usize,
+    row: &[u8],
+    key: &[u8],
+) -> Result<Spot, u32> {
+    match written {
+        Err(cause) => return Err(*cause),
+        Ok(written) if !may_write(bytes, layout, written, operation, table, key) => return Err(5),
+        Ok(_) => {}
+    }
+    let spot = spot(bytes, layout, table, key);
+    // a removal gives none
+    let given = if operation == REMOVE { 0 } else { row[row.len() - 2] };
     match spot.held {
-        None if !CREATE => 10,
-        None if given > 3 => 11,
-        None => create_at(store, &layout, table, spot, row),
-        Some(_) if CREATE => 18,
+        None if operation != CREATE => Err(10),
+        None if given > 3 => Err(11),
+        None => Ok(spot),
+        Some(_) if operation == CREATE => Err(18),
         Some(length) => {
-            let lets = match store[spot.byte + length - 2] {
+            let lets = match *bytes.add(spot.byte + length - 2) {
                 5 => false,
                 4 => given == 4,
                 _ => given < 4,
             };
             if lets {
-                change_at(store, &layout, spot, length, row)
+                Ok(spot)
             } else {
-                11
+                Err(11)
             }
         }
     }
 }
 
-/// The first cause met at the columns that a create and a change write, ascending; 0 for none.
+/// Whether the view includes the row at every column that is written, ascending: a create and a change write all, a removal the last.
 #[inline(always)]
-unsafe fn written_columns(bytes: At, layout: &Layout, request: &Request, table: usize, key: &[u8]) -> u32 {
-    let view = match named_view(bytes, layout, request, &mut Picked::default()) {
-        Ok(view) => view,
-        Err(cause) => return cause,
-    };
-    let rows = rows_of_view(bytes, layout, view);
-    if !rows.clone().any(|i| is_active(bytes, layout, i)) {
-        return 4;
-    }
+unsafe fn may_write(bytes: At, layout: &Layout, written: &Written, operation: u32, table: usize, key: &[u8]) -> bool {
     let Columns { first, last, .. } = COLUMNS[table];
     let mut room = [0; MOST_BYTES];
     let front = spell_front(&mut room, Place { table, column: first, row: 0 });
     let runs = runs(table, key.as_ptr());
     spell_index(room.as_mut_ptr().add(4 * front), key.as_ptr(), runs);
     let length = 4 * (front + runs.parts());
-    for column in first..=last {
+    for column in if operation == REMOVE { last } else { first }..=last {
         room[4 * front - 1] = column as u8;
-        if !is_included(bytes, layout, rows.clone(), view, &room[..length]) {
-            return 5;
+        if !is_included(bytes, layout, written.rows.clone(), written.view, &room[..length]) {
+            return false;
         }
     }
-    0
+    true
 }
 
 #[inline(never)]
@@ -1199,21 +1277,176 @@ pub fn owner_remove(store: &mut [u8], table: u32, key: &[u8]) -> u32 {
         refusal => return refusal,
     }
     let table = table as usize;
-    if !legal_key(table, key) {
+    if key_front(table, key) != Some(key.len()) {
         return 7;
     }
     // SAFETY: the store was judged, and the key is legal.
-    let (number, byte, behind, end) = unsafe {
-        match held(store.as_ptr(), &layout, table, key) {
-            None => return 10,
-            Some(number) => (number, layout.start(number), layout.start(number + 1), layout.start(layout.row[4])),
+    let (spot, end) = unsafe { (spot(store.as_ptr(), &layout, table, key), layout.start(layout.row[4])) };
+    match spot.held {
+        None => 10,
+        Some(length) => {
+            take_out(store, table, spot.number, spot.byte, length, end);
+            0
         }
-    };
-    let length_at = 8 + 2 * number;
-    store.copy_within(length_at + 2..byte, length_at);
-    store.copy_within(behind..end, byte - 2);
-    set_16(store, 2 * table, layout.row[table + 1] - layout.row[table] - 1);
+    }
+}
+
+// ---- sets of edits
+
+/// The most edits of a set.
+pub const MOST_EDITS: usize = 8;
+
+/// A set of edits by one principal: 256 times a position and a number. Four numbers of `heads` are an edit: what it does, its table, and
+/// where its own of the lent bytes begin and end.
+#[inline(never)]
+pub fn principal_set(store: &mut [u8], model: u32, name: &[u8], level: u32, heads: &[u32], bytes: &[u8]) -> u32 {
+    let mut layout = Layout::new();
+    match judge_store(store, &mut layout) {
+        0 => {}
+        refusal => return refusal,
+    }
+    let count = heads.len() / 4;
+    if count.wrapping_sub(1) >= MOST_EDITS {
+        return 19;
+    }
+    let mut edits = [SetEdit::NONE; MOST_EDITS];
+    let edits = &mut edits[..count];
+    for (edit, head) in edits.iter_mut().zip(heads.chunks_exact(4)) {
+        *edit = SetEdit::new(head, bytes);
+    }
+    if has_key_twice(edits) {
+        return 19;
+    }
+    if !legal_access(&[], model, level) || !legal_name(name) {
+        return 7;
+    }
+    let request = Request { model, name, level, kind: 2, context: &[] };
+    // SAFETY: the store was judged, and the caller is in range.
+    match unsafe { judge_set(store.as_ptr(), &layout, &request, edits) } {
+        0 => {}
+        refusal => return refusal,
+    }
+    match judge_room(&layout, edits) {
+        0 => {}
+        refusal => return refusal,
+    }
+    apply_set(store, &layout, edits);
     0
+}
+
+#[derive(Clone, Copy)]
+struct SetEdit<'a> {
+    operation: u32,
+    table: usize,
+    bytes: &'a [u8],
+    /// At the front of the bytes, where it is legal.
+    key: Option<&'a [u8]>,
+    /// No byte is missing or over, and every field is in range.
+    is_whole: bool,
+    /// Known once the edit is judged.
+    spot: Spot,
+}
+
+impl<'a> SetEdit<'a> {
+    const NONE: SetEdit<'static> =
+        SetEdit { operation: REMOVE, table: 0, bytes: &[], key: None, is_whole: false, spot: Spot { number: 0, byte: 0, held: None } };
+
+    #[inline(always)]
+    fn new(head: &[u32], bytes: &'a [u8]) -> SetEdit<'a> {
+        let end = bytes.len().min(head[3] as usize);
+        let bytes = &bytes[end.min(head[2] as usize)..end];
+        let (operation, table) = (head[0].min(REMOVE), head[1].min(3) as usize);
+        let key = key_front(table, bytes).map(|key| &bytes[..key]);
+        let is_whole = key.is_some_and(|key| if operation == REMOVE { key.len() == bytes.len() } else { is_row(table, bytes, key.len()) });
+        SetEdit { operation, table, bytes, key, is_whole, ..SetEdit::NONE }
+    }
+
+    /// Among all rows. Where new rows come before one row, all have its number: the earlier table first, then by key.
+    #[inline(always)]
+    fn place(&self) -> (usize, usize, Option<&'a [u8]>) {
+        (self.spot.number, self.table, self.key)
+    }
+}
+
+/// Whether a legal key of one table is there twice.
+#[inline(always)]
+fn has_key_twice(edits: &[SetEdit]) -> bool {
+    edits.iter().enumerate().any(|(i, edit)| {
+        let same = |other: &SetEdit| other.table == edit.table && other.key == edit.key;
+        edit.key.is_some() && edits[..i].iter().any(same)
+    })
+}
+
+/// The first refusal and its position, and of every edit before it the spot.
+/// SAFETY: the store was judged, and the caller is in range.
+#[inline(always)]
+unsafe fn judge_set(bytes: At, layout: &Layout, request: &Request, edits: &mut [SetEdit]) -> u32 {
+    let written = written_view(bytes, layout, request);
+    for (position, edit) in (1..).zip(edits) {
+        let judged = match edit.key {
+            Some(key) if edit.is_whole && edit.table > 0 => judge_edit(bytes, layout, &written, edit.operation, edit.table, edit.bytes, key),
+            _ if edit.is_whole => Err(12),
+            _ => Err(7),
+        };
+        match judged {
+            Ok(spot) => edit.spot = spot,
+            Err(refusal) => return 256 * position + refusal,
+        }
+    }
+    0
+}
+
+/// The first table that would have too many rows, by the first create there.
+#[inline(always)]
+fn judge_room(layout: &Layout, edits: &[SetEdit]) -> u32 {
+    for (table, limit) in LIMITS.into_iter().enumerate() {
+        let is = |edit: &SetEdit, operation| edit.table == table && edit.operation == operation;
+        let new = edits.iter().filter(|edit| is(edit, CREATE)).count();
+        let gone = edits.iter().filter(|edit| is(edit, REMOVE)).count();
+        if layout.row[table + 1] - layout.row[table] + new > limit + gone {
+            let before = edits.iter().take_while(|edit| !is(edit, CREATE)).count();
+            return 256 * (before as u32 + 1) + 9;
+        }
+    }
+    0
+}
+
+/// The removals, and then the others, each from the last row on: so a row's place is the one that it had, but for the array of lengths in
+/// front of all rows, which grows and shrinks, and for the rows gone before it.
+#[inline(always)]
+fn apply_set(store: &mut [u8], layout: &Layout, edits: &mut [SetEdit]) {
+    edits.sort_unstable_by(|a, b| b.place().cmp(&a.place()));
+    // SAFETY: the survey has passed.
+    let mut end = unsafe { layout.start(layout.row[4]) };
+    let (mut gone, mut gone_bytes) = (0, 0);
+    for SetEdit { table, spot, .. } in edits.iter().filter(|edit| edit.operation == REMOVE) {
+        let length = spot.held.unwrap_or(0);
+        take_out(store, *table, spot.number, spot.byte - 2 * gone, length, end);
+        end -= 2 + length;
+        gone += 1;
+        gone_bytes += length;
+    }
+    let lengths_gone = 2 * gone;
+    let mut lengths_new = 0;
+    for SetEdit { operation, table, bytes, spot, .. } in edits.iter() {
+        let held = spot.held.unwrap_or(0);
+        if *operation == REMOVE {
+            // the edits that follow stand before it
+            gone -= 1;
+            gone_bytes -= held;
+            continue;
+        }
+        let number = spot.number - gone;
+        let byte = spot.byte + lengths_new - lengths_gone - gone_bytes;
+        if *operation == CREATE {
+            insert(store, *table, number, byte, end, bytes);
+            lengths_new += 2;
+            end += 2;
+        } else {
+            replace(store, number, byte, held, end, bytes);
+        }
+        end = end - held + bytes.len();
+    }
 }
 
 // ---- images

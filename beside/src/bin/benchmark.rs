@@ -137,6 +137,18 @@ mod proved {
                 bytes: *const u8,
                 bytes_len: usize,
             ) -> u32;
+            fn bench_principal_set(
+                store: *mut u8,
+                store_len: usize,
+                model: u32,
+                name: *const u8,
+                name_len: usize,
+                level: u32,
+                heads: *const u32,
+                heads_len: usize,
+                bytes: *const u8,
+                bytes_len: usize,
+            ) -> u64;
             fn bench_read_image(image: *const u8, image_len: usize, store: *mut [u8; ROOM]) -> u32;
             fn bench_write_image(store: *const u8, store_len: usize, out: *mut u8, out_len: usize) -> u64;
         }
@@ -232,6 +244,14 @@ mod proved {
         fn principal_row(store: &mut [u8], model: u32, name: &[u8], level: u32, operation: u32, table: u32, row: &[u8]) -> u32 {
             let (name, name_len) = (name.as_ptr(), name.len());
             unsafe { bench_principal_edit(store.as_mut_ptr(), store.len(), model, name, name_len, level, operation, table, row.as_ptr(), row.len()) }
+        }
+
+        pub fn principal_set(store: &mut [u8], model: u32, name: &[u8], level: u32, heads: &[u32], bytes: &[u8]) -> u32 {
+            let (name, name_len) = (name.as_ptr(), name.len());
+            let (heads, heads_len, bytes, bytes_len) = (heads.as_ptr(), heads.len(), bytes.as_ptr(), bytes.len());
+            let told =
+                unsafe { bench_principal_set(store.as_mut_ptr(), store.len(), model, name, name_len, level, heads, heads_len, bytes, bytes_len) };
+            told as u32
         }
 
         pub fn read_image(image: &[u8], store: &mut [u8; ROOM]) -> u32 {
@@ -764,6 +784,96 @@ fn principal_rows(bench: &mut Bench) {
     bench.differ |= a[..image.len()] != image[..] || b[..image.len()] != image[..];
 }
 
+/// A set of edits as both sides are lent it.
+#[cfg(feature = "store")]
+#[derive(Default)]
+struct EditSet {
+    heads: Vec<u32>,
+    bytes: Vec<u8>,
+}
+
+#[cfg(feature = "store")]
+impl EditSet {
+    /// The same operation on each row: 0 creates it, 1 changes it, 2 removes it.
+    fn of(operation: u32, rows: &[Row]) -> EditSet {
+        let mut set = EditSet::default();
+        for row in rows {
+            set.push(operation, row);
+        }
+        set
+    }
+
+    fn push(&mut self, operation: u32, row: &Row) {
+        let from = self.bytes.len();
+        self.bytes.extend(if operation == 2 { image::key_bytes(&row.key()) } else { image::row_bytes(row) });
+        self.heads.extend([operation, row.table() as u32, from as u32, self.bytes.len() as u32]);
+    }
+}
+
+/// Sets of the last principal on full tables: eight rows, of the mapping table, the access table and the view table, removed and created,
+/// changed to what they are, and created where they are missing; and a set refused at its last edit.
+#[cfg(feature = "store")]
+fn set_rows(bench: &mut Bench) {
+    use proved::store;
+
+    let tables = walked(1);
+    let caller = name(b'n', 63);
+    let proved = |lent: &mut [u8], set: &EditSet| {
+        store::principal_set(black_box(lent), MODEL, black_box(&caller), 3, black_box(&set.heads), black_box(&set.bytes))
+    };
+    let by_hand = |lent: &mut [u8], set: &EditSet| {
+        handwritten::principal_set(black_box(lent), MODEL, black_box(&caller), 3, black_box(&set.heads), black_box(&set.bytes))
+    };
+
+    let mappings = [0, 20, 40].map(|i| Row::Mapping(tables.mappings[i].clone()));
+    let accesses = [0, 31].map(|i| Row::Access(tables.accesses[i].clone()));
+    let views = [1, 48, 95].map(|i| Row::View(tables.views[i].clone()));
+    let eight = [&mappings[..], &accesses, &views].concat();
+    let (creates, changes, removals) = (EditSet::of(0, &eight), EditSet::of(1, &eight), EditSet::of(2, &eight));
+    let mut refused = EditSet::of(1, &eight[..7]);
+    refused.push(0, &eight[7]);
+
+    let full = image::write(&tables);
+    let mut without = tables.clone();
+    for row in &eight {
+        without.remove(&row.key());
+    }
+    let nearly_full = image::write(&without);
+
+    let (mut a, mut b) = (store_of(&nearly_full), store_of(&nearly_full));
+    let found = a.clone();
+    bench.row(
+        "principal's set of eight creates, nearly full tables, and the store copied back",
+        || {
+            a.copy_from_slice(&found[..]);
+            u64::from(proved(&mut a[..], &creates))
+        },
+        || {
+            b.copy_from_slice(&found[..]);
+            u64::from(by_hand(&mut b[..], &creates))
+        },
+    );
+    bench.differ |= a[..full.len()] != full[..] || b[..full.len()] != full[..];
+    bench.row(
+        "principal's sets of eight removals and of eight creates, full tables",
+        || u64::from(proved(&mut a[..], &removals) | proved(&mut a[..], &creates)),
+        || u64::from(by_hand(&mut b[..], &removals) | by_hand(&mut b[..], &creates)),
+    );
+    bench.row(
+        "principal's set of eight changes, full tables",
+        || u64::from(proved(&mut a[..], &changes)),
+        || u64::from(by_hand(&mut b[..], &changes)),
+    );
+    bench.differ |= by_hand(&mut b[..], &removals) | by_hand(&mut b[..], &creates) | by_hand(&mut b[..], &changes) != 0;
+    bench.differ |= by_hand(&mut b[..], &refused) != 8 * 256 + 18;
+    bench.row(
+        "principal's set refused at its last edit, which creates a held row, full tables",
+        || u64::from(proved(&mut a[..], &refused)),
+        || u64::from(by_hand(&mut b[..], &refused)),
+    );
+    bench.differ |= a[..full.len()] != full[..] || b[..full.len()] != full[..];
+}
+
 fn main() -> ExitCode {
     let mut bench = Bench { batches: 41, nanoseconds: 2_000_000, only: String::new(), differ: false };
     let mut words = std::env::args().skip(1);
@@ -789,6 +899,7 @@ fn main() -> ExitCode {
         match_rows(&mut bench);
         walk_rows(&mut bench);
         principal_rows(&mut bench);
+        set_rows(&mut bench);
         explain_rows(&mut bench);
     }
     println!();

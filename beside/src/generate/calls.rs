@@ -1,7 +1,8 @@
-//! Calls of `trycalls` on the tables as they stand: edits of all kinds, decisions, explanations, matches, instances.
+//! Calls of `trycalls` on the tables as they stand: edits of all kinds, sets of them, decisions, explanations, matches, instances.
 
 use super::matches::{match_access, match_view};
 use super::requests::{long_name, principal, request, AROUND, MODELS_AROUND};
+use super::sets::set_in_a_line;
 use super::world::{held_key, key, near_identifier, near_name, row, table, World};
 use crate::random::Random;
 use crate::reference::edits::{judge_principal, Caller, Edit};
@@ -11,7 +12,7 @@ use crate::reference::rows::*;
 use crate::reference::tables::Tables;
 
 pub fn call(random: &mut Random, world: &World, tables: &Tables) -> Call {
-    match random.below(27) {
+    match random.below(29) {
         0..=6 => Call::Owner(edit(random, world, tables)),
         7..=12 => principal_call(random, world, tables),
         13..=16 => Call::Decide(request(random, world, tables)),
@@ -26,6 +27,7 @@ pub fn call(random: &mut Random, world: &World, tables: &Tables) -> Call {
         }
         21 | 22 => match_view(random, world, tables),
         23 | 24 => match_access(random, world, tables),
+        25 | 26 => set_in_a_line(random, world, tables),
         _ => Call::Decode(instance_near(random, world, tables)),
     }
 }
@@ -45,6 +47,10 @@ pub fn principal_call(random: &mut Random, world: &World, tables: &Tables) -> Ca
 
 pub fn edit(random: &mut Random, world: &World, tables: &Tables) -> Edit {
     let table = if random.chance(6) { Table::Context } else { table(random) };
+    edit_in(random, world, tables, table)
+}
+
+pub fn edit_in(random: &mut Random, world: &World, tables: &Tables, table: Table) -> Edit {
     if random.chance(30) {
         let mut key = held_key(random, world, tables, table);
         if random.chance(8) {

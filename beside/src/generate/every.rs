@@ -34,7 +34,7 @@ fn access(prefix: &str, model: u32, level: u32, matching: u32, view: &str) -> Ac
     Access { group: "g".into(), prefix: prefix.into(), model, level, matching, read, write, notify, storage: 3, status: 1 }
 }
 
-fn view(name: &str, subtree: Identifier, mask: Vec<u8>, kind: u32, status: u32) -> View {
+pub(super) fn view(name: &str, subtree: Identifier, mask: Vec<u8>, kind: u32, status: u32) -> View {
     View { name: name.into(), subtree, mask, kind, storage: 3, status }
 }
 
@@ -214,14 +214,14 @@ fn longest_rows() -> Case {
 }
 
 /// Tables where Ann, under model 3 at level 1, may edit every row.
-fn granted() -> Tables {
+pub(super) fn granted() -> Tables {
     let mut tables = base(&[""]);
     tables.put(Row::Access(access("", 0, 1, 1, "v")));
     tables.put(Row::View(view("v", vec![1], vec![], 1, 1)));
     tables
 }
 
-fn ann() -> Caller {
+pub(super) fn ann() -> Caller {
     Caller { model: 3, name: "ann".into(), level: 1 }
 }
 
@@ -311,7 +311,7 @@ fn edits_under(set: &[View], table: Table, calls: &mut Vec<Call>) {
     calls.extend(set.iter().map(|row| Call::Owner(Edit::Remove(Row::View(row.clone()).key()))));
 }
 
-fn stored(table: Table, number: usize, storage: u32) -> Row {
+pub(super) fn stored(table: Table, number: usize, storage: u32) -> Row {
     let name = vec![b'r', number as u8];
     match table {
         Table::Context => Row::Context(Context { name }),

@@ -6,7 +6,7 @@ use crate::random::Random;
 pub fn respelt(random: &mut Random, line: &str) -> String {
     let hex = hex_words(line);
     let words = line.split(' ').enumerate().map(|(i, word)| {
-        if hex.contains(&i) {
+        if hex.contains(&i) && word.bytes().all(|byte| byte.is_ascii_hexdigit()) {
             return if random.chance(50) { word.to_uppercase() } else { word.to_string() };
         }
         if word.starts_with(|c: char| c.is_ascii_digit()) && random.chance(30) {
@@ -18,12 +18,12 @@ pub fn respelt(random: &mut Random, line: &str) -> String {
     words.collect::<Vec<String>>().join(" ")
 }
 
-/// The places of names and masks among a line's words.
+/// The places of names and masks among a line's words; behind a key, where they would be in its row.
 fn hex_words(line: &str) -> Vec<usize> {
     let words: Vec<&str> = line.split(' ').collect();
     let mut hex = match words[0] {
         "decide" | "explain" => vec![4, 5],
-        "principal" | "walk" => vec![2],
+        "principal" | "set" | "walk" => vec![2],
         "owner" | "encode" | "decode" | "match" | "image" => vec![],
         _ => vec![3, 4],
     };
@@ -49,11 +49,11 @@ pub fn lengthened(line: &str, length: usize) -> String {
 }
 
 /// Bytes at the edges of digits and hex digits, separators, and bytes that no word has.
-const BYTES: &[u8] = b"019/:afg`AFG@.-+ \t\r\0\x7f\x80\xff_,zp";
+const BYTES: &[u8] = b"019/:;afg`AFG@.-+ \t\r\0\x7f\x80\xff_,zp";
 
 pub fn malformed(random: &mut Random, line: &str) -> Vec<u8> {
     let mut bytes = line.as_bytes().to_vec();
-    match random.below(12) {
+    match random.below(13) {
         0 => {
             let word = random.of(&[
                 "4294967296",
@@ -98,6 +98,7 @@ pub fn malformed(random: &mut Random, line: &str) -> Vec<u8> {
         6 => bytes = vec![random.of(BYTES); random.of(&[0, 1, 2048, 2049, 5000])],
         7 => bytes = of_another_table(random, line).into_bytes(),
         8 => bytes = of_another_edit(random, line).into_bytes(),
+        9 => bytes = with_other_separators(random, line).into_bytes(),
         _ => {
             for _ in 0..random.between(1, 2) {
                 alter(random, &mut bytes);
@@ -124,6 +125,20 @@ fn of_another_edit(random: &mut Random, line: &str) -> String {
     let other = random.of(&["create", "change", "remove", "put", "add"]);
     let words = line.split(' ').map(|word| if EDIT_WORDS.contains(&word) { other } else { word });
     words.collect::<Vec<&str>>().join(" ")
+}
+
+/// Without one of the `;` between edits, with another word for it or with one more; or with one anywhere.
+fn with_other_separators(random: &mut Random, line: &str) -> String {
+    let mut words: Vec<&str> = line.split(' ').collect();
+    let places: Vec<usize> = (0..words.len()).filter(|place| words[*place] == ";").collect();
+    let place = if places.is_empty() { None } else { Some(random.of(&places)) };
+    match (random.below(4), place) {
+        (0, Some(place)) => drop(words.remove(place)),
+        (1, Some(place)) => words[place] = random.of(&["", ";;", ",", ":", "set"]),
+        (2, Some(place)) => words.insert(place, ";"),
+        _ => words.insert(random.between(0, words.len()), ";"),
+    }
+    words.join(" ")
 }
 
 fn alter(random: &mut Random, bytes: &mut Vec<u8>) {

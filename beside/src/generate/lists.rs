@@ -2,6 +2,7 @@
 
 use super::calls::{edit, fitting, mostly_fitting, principal_call};
 use super::requests::request;
+use super::sets::{allowed, set_call, shortened};
 use super::walks::start;
 use super::world::{any_column, grant, held_key, identifier, row, table, World, OWN_TABLES};
 use crate::random::Random;
@@ -47,14 +48,14 @@ impl Circle {
     pub fn is_shared(&self, call: &Call) -> bool {
         match call {
             Call::Decide(request) | Call::Explain(request) => self.has_member(request.model, &request.name),
-            Call::Principal(caller, _) | Call::Walk(caller, _) => self.has_member(caller.model, &caller.name),
+            Call::Principal(caller, _) | Call::Set(caller, _) | Call::Walk(caller, _) => self.has_member(caller.model, &caller.name),
             Call::Owner(edit) => self.has_key(&edit.key()),
             _ => false,
         }
     }
 
     /// A shared create or change maps members to the group alone and its access rows to chosen views or none; a member's edit is of the
-    /// circle; a member's walk is by a view that refuses every instance outside of the circle.
+    /// circle, and so is every edit of its sets; a member's walk is by a view that refuses every instance outside of the circle.
     fn keeps_conditions(&self, tables: &Tables, call: &Call) -> bool {
         let names_own = |row: &Row| match row {
             Row::Mapping(r) => r.group == self.group,
@@ -68,6 +69,7 @@ impl Circle {
         match call {
             Call::Owner(edit) => keeps(edit),
             Call::Principal(_, edit) => self.has_key(&edit.key()) && keeps(edit),
+            Call::Set(_, edits) => edits.iter().all(|edit| self.has_key(&edit.key()) && keeps(edit)),
             Call::Walk(caller, _) => self.confines(tables, caller),
             _ => true,
         }
@@ -150,7 +152,7 @@ pub fn two_lists(random: &mut Random, world: &World, circle: &Circle, starts: &[
             Some(row) => Call::Owner(fitting(&tables[0], row.clone())),
             None => shared_call(random, world, circle, &tables[0]),
         };
-        let full = tables.iter().any(|tables| answer(&mut tables.clone(), &next) == "9");
+        let full = tables.iter().any(|tables| number_told(&answer(&mut tables.clone(), &next)) == "9");
         if circle.is_shared(&next) && tables.iter().all(|tables| circle.keeps_conditions(tables, &next)) && !full {
             for (list, tables) in lists.iter_mut().zip(&mut tables) {
                 answer(tables, &next);
@@ -172,10 +174,21 @@ pub fn two_lists(random: &mut Random, world: &World, circle: &Circle, starts: &[
 
 /// Whether another's edit of a circle row would be accepted.
 fn enters(circle: &Circle, tables: &Tables, call: &Call) -> bool {
+    edits_circle(circle, call) && number_told(&answer(&mut tables.clone(), call)) == "0"
+}
+
+/// Whether the call is an edit of a circle row; a set is an edit of each of its rows.
+fn edits_circle(circle: &Circle, call: &Call) -> bool {
     match call {
-        Call::Principal(_, edit) => circle.has_key(&edit.key()) && answer(&mut tables.clone(), call) == "0",
+        Call::Owner(edit) | Call::Principal(_, edit) => circle.has_key(&edit.key()),
+        Call::Set(_, edits) => edits.iter().any(|edit| circle.has_key(&edit.key())),
         _ => false,
     }
+}
+
+/// The number of an edit's answer, of a set's too.
+fn number_told(answer: &str) -> &str {
+    answer.split(' ').next().unwrap_or_default()
 }
 
 /// Enough for members to read and edit: a context, the members, access rows of the group and its views.
@@ -228,7 +241,8 @@ fn shared_call(random: &mut Random, world: &World, circle: &Circle, guide: &Tabl
                 Call::Decide(request)
             }
         }
-        4..=6 => Call::Principal(Caller { model, name, level }, circle_edit(random, world, circle, guide)),
+        4 | 5 => Call::Principal(Caller { model, name, level }, circle_edit(random, world, circle, guide)),
+        6 => circle_set(random, world, circle, guide, Caller { model, name, level }),
         _ => Call::Owner(circle_edit(random, world, circle, guide)),
     }
 }
@@ -255,6 +269,19 @@ fn circle_edit(random: &mut Random, world: &World, circle: &Circle, guide: &Tabl
     mostly_fitting(random, guide, row)
 }
 
+/// A member's set, mostly of such edits as it may make.
+fn circle_set(random: &mut Random, world: &World, circle: &Circle, guide: &Tables, caller: Caller) -> Call {
+    let count = random.of(&[1, 2, 3, 4, 8]);
+    let draw = |random: &mut Random| loop {
+        let edit = circle_edit(random, world, circle, guide);
+        if circle.has_key(&edit.key()) {
+            return edit;
+        }
+    };
+    let edits = allowed(random, guide, &caller, count, draw);
+    shortened(random, Call::Set(caller, edits))
+}
+
 fn below_family(random: &mut Random, circle: &Circle) -> (Identifier, Vec<u8>) {
     let (mut subtree, mask) = random.pick(&circle.families()).clone();
     let more = random.of(&[0, 0, 1, 3]);
@@ -274,16 +301,20 @@ fn other_call(random: &mut Random, world: &World, circle: &Circle, tables: &Tabl
             return Call::Owner(mostly_fitting(random, tables, row));
         }
     }
-    match random.below(7) {
-        0 => Call::Explain(request(random, world, tables)),
-        1 | 2 => Call::Decide(request(random, world, tables)),
-        3 | 4 => Call::Owner(edit(random, world, tables)),
+    match random.below(16) {
+        0 | 1 => Call::Explain(request(random, world, tables)),
+        2..=5 => Call::Decide(request(random, world, tables)),
+        6..=9 => Call::Owner(edit(random, world, tables)),
+        10 | 11 => {
+            let call = set_call(random, world, tables);
+            shortened(random, call)
+        }
         _ => principal_call(random, world, tables),
     }
 }
 
 /// The conditions on a list: those on shared calls; others have no edit accepted in the circle, and no shared create in the circle is
-/// answered 9.
+/// answered 9, nor a member's set.
 pub fn list_keeps(circle: &Circle, start: &Tables, list: &[Call]) -> bool {
     let mut tables = start.clone();
     for call in list {
@@ -291,18 +322,13 @@ pub fn list_keeps(circle: &Circle, start: &Tables, list: &[Call]) -> bool {
         if shared && !circle.keeps_conditions(&tables, call) {
             return false;
         }
-        let number = answer(&mut tables, call);
-        match call {
-            Call::Principal(_, edit) | Call::Owner(edit) => {
-                let in_circle = circle.has_key(&edit.key());
-                if shared && in_circle && number == "9" {
-                    return false;
-                }
-                if !shared && in_circle && number == "0" {
-                    return false;
-                }
-            }
-            _ => {}
+        let answer = answer(&mut tables, call);
+        let in_circle = edits_circle(circle, call);
+        if shared && in_circle && number_told(&answer) == "9" {
+            return false;
+        }
+        if !shared && in_circle && number_told(&answer) == "0" {
+            return false;
         }
     }
     true

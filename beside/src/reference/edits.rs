@@ -21,7 +21,7 @@ impl Edit {
         }
     }
 
-    fn legal(&self) -> bool {
+    pub fn legal(&self) -> bool {
         match self {
             Edit::Create(row) | Edit::Change(row) => row.legal(),
             Edit::Remove(key) => key.legal(),
@@ -125,16 +125,18 @@ fn storage_allows(edit: &Edit, held: Option<u32>) -> bool {
 
 /// A create wants room; rows out of service take room too.
 fn apply(tables: &mut Tables, edit: &Edit) -> Number {
+    let table = edit.key().table();
+    if matches!(edit, Edit::Create(_)) && tables.count(table) == table.limit() {
+        return TABLE_FULL;
+    }
+    carry_out(tables, edit);
+    SUCCESS
+}
+
+/// The row put or gone. Room is the caller's affair.
+pub fn carry_out(tables: &mut Tables, edit: &Edit) {
     match edit {
-        Edit::Create(row) => {
-            let table = row.table();
-            if tables.count(table) == table.limit() {
-                return TABLE_FULL;
-            }
-            tables.put(row.clone());
-        }
-        Edit::Change(row) => tables.put(row.clone()),
+        Edit::Create(row) | Edit::Change(row) => tables.put(row.clone()),
         Edit::Remove(key) => tables.remove(key),
     }
-    SUCCESS
 }

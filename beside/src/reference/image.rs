@@ -86,6 +86,34 @@ fn push_octets(bytes: &mut Vec<u8>, octets: &[u8]) {
     bytes.extend_from_slice(octets);
 }
 
+/// Whether the bytes of a row can hold its fields, in range or not: what a byte holds, as a number or as a count, is 255 at most.
+pub fn can_hold_row(row: &Row) -> bool {
+    can_hold_key(&row.key())
+        && match row {
+            Row::Context(_) => true,
+            Row::Mapping(r) => fits(r.group.len()) && numbers_fit(&[r.storage, r.status]),
+            Row::Access(r) => [&r.read, &r.write, &r.notify].iter().all(|name| fits(name.len())) && numbers_fit(&[r.matching, r.storage, r.status]),
+            Row::View(r) => fits(r.mask.len()) && numbers_fit(&[r.kind, r.storage, r.status]),
+        }
+}
+
+/// The same of a key. Four bytes hold every model.
+pub fn can_hold_key(key: &Key) -> bool {
+    match key {
+        Key::Context { name } | Key::Mapping { name, .. } => fits(name.len()),
+        Key::Access { group, prefix, level, .. } => fits(group.len()) && fits(prefix.len()) && numbers_fit(&[*level]),
+        Key::View { name, subtree } => fits(name.len()) && fits(subtree.len()),
+    }
+}
+
+fn fits(count: usize) -> bool {
+    u8::try_from(count).is_ok()
+}
+
+fn numbers_fit(numbers: &[u32]) -> bool {
+    numbers.iter().all(|number| u8::try_from(*number).is_ok())
+}
+
 // ---- reading
 
 pub fn read(image: &[u8]) -> Result<Tables, Number> {
@@ -153,20 +181,20 @@ fn front(store: &[u8]) -> Option<&[u8]> {
 /// The bytes of one row: each field in order is first there (14), then in range (7); then no bytes are over (14).
 pub fn read_row(table: Table, bytes: &[u8]) -> Result<Row, Number> {
     let mut fields = Fields { bytes };
-    let row = match table {
-        Table::Context => Row::Context(Context { name: fields.octets(0, NAME_LIMIT)? }),
-        Table::Mapping => Row::Mapping(Mapping {
-            model: fields.model(legal_principal_model)?,
-            name: fields.octets(1, NAME_LIMIT)?,
+    let row = match fields.key(table)? {
+        Key::Context { name } => Row::Context(Context { name }),
+        Key::Mapping { model, name } => Row::Mapping(Mapping {
+            model,
+            name,
             group: fields.octets(1, NAME_LIMIT)?,
             storage: fields.byte(legal_storage)?,
             status: fields.byte(legal_status)?,
         }),
-        Table::Access => Row::Access(Access {
-            group: fields.octets(1, NAME_LIMIT)?,
-            prefix: fields.octets(0, NAME_LIMIT)?,
-            model: fields.model(legal_access_model)?,
-            level: fields.byte(legal_level)?,
+        Key::Access { group, prefix, model, level } => Row::Access(Access {
+            group,
+            prefix,
+            model,
+            level,
             matching: fields.byte(legal_match)?,
             read: fields.octets(0, NAME_LIMIT)?,
             write: fields.octets(0, NAME_LIMIT)?,
@@ -174,9 +202,9 @@ pub fn read_row(table: Table, bytes: &[u8]) -> Result<Row, Number> {
             storage: fields.byte(legal_storage)?,
             status: fields.byte(legal_status)?,
         }),
-        Table::View => Row::View(View {
-            name: fields.octets(1, NAME_LIMIT)?,
-            subtree: fields.subtree()?,
+        Key::View { name, subtree } => Row::View(View {
+            name,
+            subtree,
             mask: fields.octets(0, MASK_LIMIT)?,
             kind: fields.byte(legal_type)?,
             storage: fields.byte(legal_storage)?,
@@ -190,11 +218,32 @@ pub fn read_row(table: Table, bytes: &[u8]) -> Result<Row, Number> {
     }
 }
 
+/// The key at the front of the bytes, and the bytes behind it.
+pub fn read_key(table: Table, bytes: &[u8]) -> Result<(Key, &[u8]), Number> {
+    let mut fields = Fields { bytes };
+    let key = fields.key(table)?;
+    Ok((key, fields.bytes))
+}
+
 struct Fields<'a> {
     bytes: &'a [u8],
 }
 
 impl<'a> Fields<'a> {
+    fn key(&mut self, table: Table) -> Result<Key, Number> {
+        Ok(match table {
+            Table::Context => Key::Context { name: self.octets(0, NAME_LIMIT)? },
+            Table::Mapping => Key::Mapping { model: self.model(legal_principal_model)?, name: self.octets(1, NAME_LIMIT)? },
+            Table::Access => Key::Access {
+                group: self.octets(1, NAME_LIMIT)?,
+                prefix: self.octets(0, NAME_LIMIT)?,
+                model: self.model(legal_access_model)?,
+                level: self.byte(legal_level)?,
+            },
+            Table::View => Key::View { name: self.octets(1, NAME_LIMIT)?, subtree: self.subtree()? },
+        })
+    }
+
     fn take(&mut self, length: usize) -> Result<&'a [u8], Number> {
         if length > self.bytes.len() {
             return Err(TORN);

@@ -6,6 +6,7 @@ use super::edits::{owner_edit, principal_edit, Caller, Edit};
 use super::image;
 use super::instance;
 use super::rows::*;
+use super::sets::{principal_set, Handed, SetAnswer};
 use super::tables::Tables;
 use super::walk::walk;
 
@@ -61,6 +62,7 @@ pub enum Call {
     Explain(Request),
     Owner(Edit),
     Principal(Caller, Edit),
+    Set(Caller, Vec<Edit>),
     Encode(u32, Key),
     Decode(Identifier),
     MatchView { name: Name, variable: Identifier },
@@ -75,6 +77,10 @@ pub fn answer(tables: &mut Tables, call: &Call) -> String {
         Call::Explain(request) => explanation_text(&explain(tables, request)),
         Call::Owner(edit) => owner_edit(tables, edit).to_string(),
         Call::Principal(caller, edit) => principal_edit(tables, caller, edit).to_string(),
+        Call::Set(caller, edits) => {
+            let set: Vec<Handed> = edits.iter().map(Handed::of).collect();
+            set_answer_text(principal_set(tables, caller, &set))
+        }
         Call::Encode(column, key) => match instance::encode(*column, key) {
             Ok(identifier) => format!("oid {}", dotted(&identifier)),
             Err(number) => number.to_string(),
@@ -115,6 +121,7 @@ pub fn call_of(line: &[u8]) -> Option<Call> {
         b"explain" => Call::Explain(words.request()?),
         b"owner" => Call::Owner(words.edit()?),
         b"principal" => Call::Principal(words.caller()?, words.edit()?),
+        b"set" => Call::Set(words.caller()?, words.edits()?),
         b"encode" => Call::Encode(words.number()?, words.key()?),
         b"decode" => Call::Decode(words.identifier()?),
         b"match" => words.match_call()?,
@@ -188,6 +195,18 @@ impl<'a> Words<'a> {
         }
     }
 
+    /// All the words that are left: edits with the word `;` between. What the bytes of an edit cannot hold, no set is handed.
+    fn edits(&mut self) -> Option<Vec<Edit>> {
+        let mut edits = Vec::new();
+        while !self.over() {
+            if !edits.is_empty() && self.next()? != b";" {
+                return None;
+            }
+            edits.push(self.edit().filter(can_hold)?);
+        }
+        Some(edits)
+    }
+
     fn match_call(&mut self) -> Option<Call> {
         match self.next()? {
             b"view" => Some(Call::MatchView { name: self.octets()?, variable: self.identifier()? }),
@@ -228,6 +247,14 @@ impl<'a> Words<'a> {
                 Some(Row::View(View { name, subtree, mask: self.octets()?, kind: self.number()?, storage: self.number()?, status: self.number()? }))
             }
         }
+    }
+}
+
+/// Whether the bytes of the row, or of the key for a removal, can hold it.
+pub fn can_hold(edit: &Edit) -> bool {
+    match edit {
+        Edit::Create(row) | Edit::Change(row) => image::can_hold_row(row),
+        Edit::Remove(key) => image::can_hold_key(key),
     }
 }
 
@@ -318,6 +345,10 @@ pub fn row_text(row: &Row) -> String {
     }
 }
 
+pub fn set_answer_text(answer: SetAnswer) -> String {
+    format!("{} {}", answer.number, answer.position)
+}
+
 /// The number, then the rows shown.
 fn explanation_text(explanation: &Explanation) -> String {
     let rows = explanation.rows().into_iter().flatten().map(|row| row_text(&row));
@@ -343,6 +374,7 @@ pub fn call_text(call: &Call) -> String {
         Call::Explain(request) => format!("explain {}", request_text(request)),
         Call::Owner(edit) => format!("owner {}", edit_text(edit)),
         Call::Principal(caller, edit) => format!("principal {} {}", caller_text(caller), edit_text(edit)),
+        Call::Set(caller, edits) => set_text(caller, edits),
         Call::Encode(column, key) => format!("encode {} {}", column, key_text(key)),
         Call::Decode(identifier) => format!("decode {}", dotted(identifier)),
         Call::MatchView { name, variable } => format!("match view {} {}", hex_or_dash(name), dotted(variable)),
@@ -356,6 +388,12 @@ pub fn call_text(call: &Call) -> String {
 
 fn caller_text(caller: &Caller) -> String {
     format!("{} {} {}", caller.model, hex_or_dash(&caller.name), caller.level)
+}
+
+fn set_text(caller: &Caller, edits: &[Edit]) -> String {
+    let edits = edits.iter().map(edit_text).collect::<Vec<String>>().join(" ; ");
+    // a set without edits ends with its caller
+    format!("set {} {edits}", caller_text(caller)).trim_end().to_string()
 }
 
 fn edit_text(edit: &Edit) -> String {

@@ -8,9 +8,12 @@ pub mod instance;
 pub mod lines;
 pub mod ridge;
 pub mod rows;
+pub mod sets;
 pub mod tables;
 pub mod walk;
 
+#[cfg(test)]
+mod all_or_none;
 #[cfg(test)]
 mod examples;
 #[cfg(test)]

@@ -1,7 +1,7 @@
 //! Writing and reading, encoding and decoding, printing and parsing are each the inverse of the other, on random tables.
 
 use super::edits::Edit;
-use super::lines::{call_of, call_text, Call};
+use super::lines::{call_of, call_text, can_hold, Call};
 use super::{image, instance};
 use crate::generate::calls::call;
 use crate::generate::world::{tables, World};
@@ -46,7 +46,8 @@ fn lines() {
         }
         for _ in 0..50 {
             let call = call(random, &world, &tables);
-            assert_eq!(call_of(call_text(&call).as_bytes()), Some(call));
+            let is_said = !matches!(&call, Call::Set(_, edits) if !edits.iter().all(can_hold));
+            assert_eq!(call_of(call_text(&call).as_bytes()), Some(call).filter(|_| is_said));
         }
     }
 }

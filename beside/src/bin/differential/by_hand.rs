@@ -1,11 +1,15 @@
 //! The part handwritten: the benchmark's other side has to do the same work.
 
+use crate::programs::{answer_kind, set_position};
+use crate::sets::count_set;
 use crate::tally::Tally;
 use beside::generate::calls::{edit, principal_call};
 use beside::generate::damage::damaged;
 use beside::generate::every::{self, Case};
+use beside::generate::every_set;
 use beside::generate::matches;
 use beside::generate::requests::request;
+use beside::generate::sets::{grant_editing, set_call};
 use beside::generate::walks::{grant_reading, ridge_walks, walk};
 use beside::generate::world::{tables, World};
 use beside::handwritten;
@@ -13,8 +17,9 @@ use beside::random::Random;
 use beside::reference::decision::{decide, explain, match_access, match_view, Explanation, Request};
 use beside::reference::edits::{owner_edit, principal_edit, Caller, Edit};
 use beside::reference::image::{self, AgentRequest};
-use beside::reference::lines::{call_text, Call};
+use beside::reference::lines::{call_text, set_answer_text, Call};
 use beside::reference::rows::*;
+use beside::reference::sets::{principal_set, Handed, Operation, SetAnswer};
 use beside::reference::tables::Tables;
 use beside::reference::walk::walk as reference_walk;
 
@@ -65,12 +70,9 @@ pub fn every_edit(tally: &mut Tally, random: &mut Random) {
         for asked in &calls {
             match asked {
                 Call::Owner(edit) => check_owner_edit(tally, random, &mut store, &mut held, edit, false),
-                Call::Principal(caller, edit @ Edit::Remove(key)) => {
-                    let is_accepted = principal_edit(&mut held, caller, edit) == 0;
-                    // by hand there is the owner's alone
-                    if is_accepted {
-                        handwritten::owner_remove(&mut store, key.table() as u32, &image::key_bytes(key));
-                    }
+                // by hand a principal's removal is a set of one
+                Call::Principal(caller, edit @ Edit::Remove(_)) => {
+                    check_set(tally, random, &mut store, Ok(&mut held), caller, &[Lent::of(edit)]);
                 }
                 Call::Principal(..) => check_principal_row(tally, &mut store, &mut held, asked, false),
                 _ => {}
@@ -131,6 +133,137 @@ fn check_principal_row(tally: &mut Tally, store: &mut [u8], held: &mut Tables, a
     tally.check(got == expected && store[..image.len()] == image[..], || {
         format!("handwritten: {} is {got}, not {expected}, or the rows differ", call_text(asked))
     });
+}
+
+/// The hand-written set beside the reference's: every set of a small kind, random ones on stores as the ones before leave them, and some on
+/// damaged stores.
+pub fn sets(tally: &mut Tally, random: &mut Random, rounds: usize) {
+    for (mut held, calls) in every_set::sets().into_iter().chain(every_set::sets_of_one()) {
+        let mut store = store_of(random, &image::write(&held));
+        for asked in &calls {
+            match asked {
+                Call::Owner(edit) => check_owner_edit(tally, random, &mut store, &mut held, edit, false),
+                Call::Set(caller, edits) => {
+                    let lent: Vec<Lent> = edits.iter().map(Lent::of).collect();
+                    check_set(tally, random, &mut store, Ok(&mut held), caller, &lent);
+                }
+                _ => {}
+            }
+        }
+    }
+    for _ in 0..10 * rounds {
+        some_sets(tally, random);
+    }
+}
+
+fn some_sets(tally: &mut Tally, random: &mut Random) {
+    let world = World::any(random);
+    let mut held = tables(random, &world);
+    if random.chance(85) {
+        grant_editing(random, &world, &mut held);
+    }
+    let mut store = store_of(random, &image::write(&held));
+    for _ in 0..10 {
+        let (caller, lent) = drawn_set(random, &world, &held);
+        let answer = check_set(tally, random, &mut store, Ok(&mut held), &caller, &lent);
+        tally.meet("handwritten", format!("set drawn: {}", answer_kind(&answer)));
+    }
+    let damaged = damaged(random, &image::write(&held));
+    for mut unsound in unsound(random, &store, &damaged) {
+        let (caller, lent) = drawn_set(random, &world, &held);
+        let mut held = image::held(&unsound);
+        check_set(tally, random, &mut unsound, held.as_mut(), &caller, &lent);
+    }
+}
+
+/// An edit of a set as it is lent: what it does, its table, and its bytes.
+struct Lent {
+    operation: Operation,
+    table: Table,
+    bytes: Vec<u8>,
+}
+
+impl Lent {
+    fn of(edit: &Edit) -> Lent {
+        let (operation, bytes) = match edit {
+            Edit::Create(row) => (Operation::Create, image::row_bytes(row)),
+            Edit::Change(row) => (Operation::Change, image::row_bytes(row)),
+            Edit::Remove(key) => (Operation::Remove, image::key_bytes(key)),
+        };
+        Lent { operation, table: edit.key().table(), bytes }
+    }
+
+    /// Cut, with a byte over or another one, or lent for another operation: mostly no whole row or key.
+    fn damage(&mut self, random: &mut Random) {
+        let place = random.between(0, self.bytes.len());
+        match random.below(4) {
+            0 => self.bytes.truncate(place),
+            1 => self.bytes.push(random.of(&[0, 1, 3])),
+            2 if place < self.bytes.len() => self.bytes[place] = random.word() as u8,
+            _ => self.operation = random.of(&[Operation::Create, Operation::Change, Operation::Remove]),
+        }
+    }
+}
+
+fn drawn_set(random: &mut Random, world: &World, held: &Tables) -> (Caller, Vec<Lent>) {
+    let Call::Set(caller, edits) = set_call(random, world, held) else { unreachable!() };
+    let mut lent: Vec<Lent> = edits.iter().map(Lent::of).collect();
+    for edit in &mut lent {
+        if random.chance(3) {
+            edit.damage(random);
+        }
+    }
+    (caller, lent)
+}
+
+/// A set and the store that it leaves: refused, every byte as found. Returns the answer.
+fn check_set(
+    tally: &mut Tally,
+    random: &mut Random,
+    store: &mut [u8],
+    held: Result<&mut Tables, &mut u32>,
+    caller: &Caller,
+    lent: &[Lent],
+) -> String {
+    let set: Vec<Handed> = lent.iter().map(|edit| Handed::read(edit.operation, edit.table, &edit.bytes)).collect();
+    let before = store.to_vec();
+    let (expected, image) = match held {
+        Err(number) => (SetAnswer { number: *number, position: 0 }, Vec::new()),
+        Ok(held) => {
+            let found = held.clone();
+            let answer = principal_set(held, caller, &set);
+            count_set(tally, "handwritten", &found, caller, &set, answer);
+            (answer, image::write(held))
+        }
+    };
+    let (heads, bytes) = laid(random, lent);
+    let got = handwritten::principal_set(store, caller.model, &caller.name, caller.level, &heads, &bytes);
+    let told = set_answer_text(expected);
+    tally.meet("handwritten", format!("set: {}", answer_kind(&told)));
+    if let Some(position) = set_position(&told) {
+        tally.meet("handwritten", format!("set refused at position: {position}"));
+    }
+    let rows_are = if expected.number == 0 { store[..image.len()] == image[..] } else { *store == before[..] };
+    tally.check(got == 256 * expected.position as u32 + expected.number && rows_are, || {
+        format!("handwritten: {caller:?}'s set {set:?} is {} {}, not {told}, or the store differs", got % 256, got / 256)
+    });
+    told
+}
+
+/// The numbers of a set's edits, and all their bytes in any order with others between.
+fn laid(random: &mut Random, lent: &[Lent]) -> (Vec<u32>, Vec<u8>) {
+    let mut order: Vec<usize> = (0..lent.len()).collect();
+    random.shuffle(&mut order);
+    let mut bytes = Vec::new();
+    let mut heads = vec![0; 4 * lent.len()];
+    for i in order {
+        bytes.extend((0..random.below(3)).map(|_| 1));
+        let from = bytes.len();
+        bytes.extend_from_slice(&lent[i].bytes);
+        let head = [lent[i].operation as u32, lent[i].table as u32, from as u32, bytes.len() as u32];
+        heads[4 * i..4 * i + 4].copy_from_slice(&head);
+    }
+    (heads, bytes)
 }
 
 /// The key of the row that a match hands back and a view row's type (0 for an access row), or none, or a refusal.

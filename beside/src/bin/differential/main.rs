@@ -7,6 +7,7 @@ mod agent;
 mod by_hand;
 mod explanations;
 mod programs;
+mod sets;
 mod shrink;
 mod tally;
 mod trycalls;
@@ -62,6 +63,20 @@ const CAUSES: &[&str] = &["0", "1", "2", "3", "4", "5", "7"];
 
 const EXPLAINED: &[&str] = &["0", "1", "2", "3", "4", "5, excluded", "5, none matches", "7"];
 
+const POSITIONS: &[&str] = &["1", "2", "3", "4", "5", "6", "7", "8"];
+
+const SETS: &[(&str, &[&str])] = &[
+    ("set", &["0", "1", "2", "3", "4", "5", "7, the caller's", "7, an edit's", "9", "10", "11", "12", "18", "19"]),
+    ("set accepted, edits", POSITIONS),
+    ("set refused at position", POSITIONS),
+    ("set accepted in a full table", &["create first", "removal first"]),
+    ("set, 9", &["mapping", "access", "view", "two tables, the earlier one's create first", "two tables, the later one's create first"]),
+    ("set, 19", &["no edit", "over 8 edits", "a key twice", "a key twice, a field behind it out of range", "a caller out of range"]),
+    ("set, a cause", &["a 7 behind it"]),
+    ("set with equal keys of two tables", &["accepted", "refused"]),
+    ("set unlike its edits one by one", &["accepted", "refused"]),
+];
+
 const PAIRS: &[(&str, &[&str])] =
     &[("pairs of lists of demand 3, from fresh stores", &["alike"]), ("pairs of lists of demand 3, from stores whose circles agree", &["alike"])];
 
@@ -116,8 +131,12 @@ fn program_part(tally: &mut Tally, settings: &Settings, name: &'static str) -> R
                     ("image", &["image"]),
                     ("malformed line", &["7"]),
                     ("line over 2,048 bytes", &["7"]),
+                    ("member's set", &["0", "2", "5", "19"]),
+                    ("another's set", &["0", "5", "19"]),
                 ],
             );
+            tally.require(name, SETS);
+            tally.require_often(name, "set drawn: 0", 10 * settings.rounds);
             tally.require(name, PAIRS);
         }
     }
@@ -129,6 +148,7 @@ fn call_part(tally: &mut Tally, settings: &Settings, name: &'static str) -> Resu
     if name == "handwritten" {
         by_hand::on_a_store(tally, &mut random, settings.rounds);
         by_hand::every_edit(tally, &mut random);
+        by_hand::sets(tally, &mut random, settings.rounds);
         by_hand::explanations(tally, &mut random, settings.rounds);
         by_hand::walks(tally, &mut random, settings.rounds);
         tally.require(
@@ -143,9 +163,12 @@ fn call_part(tally: &mut Tally, settings: &Settings, name: &'static str) -> Resu
                 ("principal's change", &["0", "1", "2", "3", "4", "5", "6", "7", "10", "11", "12"]),
                 ("explanation", EXPLAINED),
                 ("explanation", &["6"]),
+                ("set", &["6"]),
                 ("walk", &["context", "mapping", "access", "view", "1", "2", "3", "4", "6", "7", "17"]),
             ],
         );
+        tally.require(name, SETS);
+        tally.require_often(name, "set drawn: 0", 15 * settings.rounds);
         agent::run(tally, &mut random, name, by_hand::call, settings.rounds);
     } else {
         #[cfg(agent_linked)]

@@ -172,18 +172,26 @@ fn count_places(tally: &mut Tally, part: &'static str, tables: &[u8], stdin: &[u
         return;
     }
     for (line, answer) in lines::lines_of(stdin).into_iter().zip(answers(expected)) {
-        let answer = answer_kind(&answer);
+        let kind = answer_kind(&answer);
         let place = match (part, line.len() > lines::LINE_LIMIT) {
             (_, true) => "line over 2,048 bytes",
             ("tryreq", _) => "request",
             _ => call_place(line),
         };
-        tally.meet(part, format!("{place}: {answer}"));
+        tally.meet(part, format!("{place}: {kind}"));
+        if let ("set", Some(position)) = (place, set_position(&answer)) {
+            tally.meet(part, format!("set refused at position: {position}"));
+        }
     }
 }
 
+/// The position that a set's answer tells, if it is about an edit.
+pub fn set_position(answer: &str) -> Option<&str> {
+    answer.split_once(' ').map(|(_, position)| position).filter(|position| *position != "0")
+}
+
 /// The answer's first word; where a match tells a row, what kind of row; where a walk tells an instance, of which table; where an
-/// explanation tells notInView, by what.
+/// explanation tells notInView, by what; where a set tells 7, whose.
 pub fn answer_kind(answer: &str) -> &str {
     let words: Vec<&str> = answer.split(' ').collect();
     match words[..] {
@@ -194,6 +202,8 @@ pub fn answer_kind(answer: &str) -> &str {
         ["access", ..] => "own model",
         ["5", "mapping", .., "view", _, _, _, "2", _, _] => "5, excluded",
         ["5", "mapping", ..] => "5, none matches",
+        ["7", "0"] => "7, the caller's",
+        ["7", _] => "7, an edit's",
         [word, ..] => word,
         [] => "",
     }
@@ -210,6 +220,7 @@ fn call_place(line: &[u8]) -> &'static str {
         Some(Call::Principal(_, Edit::Create(_))) => "principal create",
         Some(Call::Principal(_, Edit::Change(_))) => "principal change",
         Some(Call::Principal(_, Edit::Remove(_))) => "principal remove",
+        Some(Call::Set(..)) => "set",
         Some(Call::Encode(..)) => "encode",
         Some(Call::Decode(_)) => "decode",
         Some(Call::MatchView { .. }) => "match view",

@@ -36,6 +36,12 @@ impl Tally {
             }
         }
     }
+
+    /// Cases that are drawn near others have to be met often, or the others are all that is met.
+    pub fn require_often(&mut self, part: &'static str, place: &str, least: usize) {
+        let times = self.met.get(&(part, place.to_string())).copied().unwrap_or(0);
+        self.check(times >= least as u64, || format!("{part}: {times} cases of '{place}', not {least}"));
+    }
 }
 
 /// The places of an image's refusals in document 01's table.

@@ -1,8 +1,9 @@
-//! The part trycalls: lists of calls, edits into every table up to its limit and past it, the rows that step 3 and step 5 choose,
-//! explanations, and pairs of lists for demand 3.
+//! The part trycalls: lists of calls, edits into every table up to its limit and past it, sets of edits, the rows that step 3 and step 5
+//! choose, explanations, and pairs of lists for demand 3.
 
 use crate::explanations::{self, explained};
 use crate::programs::{answer_kind, answers, compare, Input, Program};
+use crate::sets;
 use crate::tally::Tally;
 use crate::tryreq::{line_ends, spelt, P12};
 use beside::generate::calls::{call, fitting, spoil_row, with_key};
@@ -35,13 +36,17 @@ pub fn run(tally: &mut Tally, random: &mut Random, program: &mut Program, rounds
     for tables in [Some(&P12[..]), Some(&FRESH[..]), Some(&ridge[..]), Some(&b""[..]), None] {
         compare(tally, program, tables, &Input::texts(example));
     }
-    for lines in [ridge::MATCHES, ridge::EXPLANATIONS, ridge::EDITS] {
+    for lines in [ridge::MATCHES, ridge::EXPLANATIONS, ridge::EDITS, ridge::SETS] {
         compare(tally, program, Some(&ridge), &Input::texts(lines.iter().map(|(line, _)| *line)));
     }
     line_ends(tally, program, &ridge, "encode 5 mapping 3 616e6e");
     line_ends(tally, program, &ridge, "owner change mapping 3 616e6e 6c65616473 3 1");
+    line_ends(tally, program, &written_by_ann(), "set 3 616e6e 1 change mapping 3 616e6e 6c65616473 3 1 ; create context 61");
     for line in FORMS {
         alterations(tally, random, program, &ridge, line);
+    }
+    for line in SET_FORMS {
+        alterations(tally, random, program, &written_by_ann(), line);
     }
     for bytes in one_of_each().into_iter().chain(beyond_largest(&image::write(&largest(random)))) {
         compare(tally, program, Some(&bytes), &Input::of(vec![image_line()]));
@@ -50,6 +55,7 @@ pub fn run(tally: &mut Tally, random: &mut Random, program: &mut Program, rounds
         compare(tally, program, Some(&image::write(&start)), &Input::calls(&calls));
     }
     some_columns(tally, program);
+    sets::run(tally, random, program, rounds);
     let (step_three, step_five) = (step_three(), step_five());
     for _ in 0..10 * rounds {
         matches(tally, program, random.pick(&step_three), access_match);
@@ -123,6 +129,20 @@ const FORMS: &[&str] = &[
     "match access 6c65616473 726964676531 3 2",
     "image",
 ];
+
+/// Sets, for their alterations: accepted, refused at the second edit, and without edits.
+const SET_FORMS: &[&str] = &[
+    "set 3 616e6e 1 change mapping 3 63616c 747261696e 3 1 ; create view 61 1.3 ff 1 3 1",
+    "set 3 616e6e 1 remove mapping 3 63616c ; change access 6c65616473 - 3 1 2 - - - 3 1",
+    "set 3 616e6e 1",
+];
+
+/// The Ridge tables' image, with Ann as one who may write everything.
+fn written_by_ann() -> Vec<u8> {
+    let mut tables = ridge::tables();
+    tables.accesses[0].write = "all".into();
+    image::write(&tables)
+}
 
 /// The line with each of its numbers too great, and altered at each of its places; what they leave is looked at in between.
 pub fn alterations(tally: &mut Tally, random: &mut Random, program: &mut Program, tables: &[u8], line: &str) {
@@ -230,7 +250,7 @@ pub fn isolation(tally: &mut Tally, random: &mut Random, program: &mut Program, 
     let starts = if fresh { Default::default() } else { agreeing_starts(random, &world, &circle) };
     let length = random.between(20, 120);
     let pair = two_lists(random, &world, &circle, &starts, length);
-    let mut shared: Vec<Vec<(&Call, String)>> = Vec::new();
+    let mut told: Vec<Vec<(&Call, String)>> = Vec::new();
     let mut ends = Vec::new();
     for (start, list) in starts.iter().zip(&pair) {
         let mut lines: Vec<Vec<u8>> = list.iter().map(|call| call_text(call).into_bytes()).collect();
@@ -239,14 +259,21 @@ pub fn isolation(tally: &mut Tally, random: &mut Random, program: &mut Program, 
         let answers = answers(&out);
         let image = answers.last().and_then(|answer| answer.strip_prefix("image ")).map(unhex).unwrap_or_default();
         ends.push(image::read(&image).map(|tables| circle.rows(&tables)));
-        shared.push(list.iter().zip(answers).filter(|(call, _)| circle.is_shared(call)).collect());
+        told.push(list.iter().zip(answers).collect());
     }
     if starts.iter().zip(&pair).all(|(start, list)| list_keeps(&circle, start, list)) {
         let from = if fresh { "fresh stores" } else { "stores whose circles agree" };
         tally.meet(program.name, format!("pairs of lists of demand 3, from {from}: alike"));
-        for (_, answer) in shared[0].iter().filter(|(call, _)| matches!(call, Call::Walk(..))) {
-            tally.meet(program.name, format!("member's walk: {}", answer_kind(answer)));
+        for (call, answer) in &told[0] {
+            let whose = if circle.is_shared(call) { "member's" } else { "another's" };
+            match call {
+                Call::Walk(..) => tally.meet(program.name, format!("{whose} walk: {}", answer_kind(answer))),
+                Call::Set(..) => tally.meet(program.name, format!("{whose} set: {}", answer_kind(answer))),
+                _ => {}
+            }
         }
+        let is_shared = |(call, _): &&(&Call, String)| circle.is_shared(call);
+        let shared: Vec<Vec<&(&Call, String)>> = told.iter().map(|list| list.iter().filter(is_shared).collect()).collect();
         let alike = shared[0] == shared[1] && ends[0].is_ok() && ends[0] == ends[1];
         tally.check(alike, || {
             let texts = pair.each_ref().map(|list| list.iter().map(call_text).collect::<Vec<_>>().join("\n"));
