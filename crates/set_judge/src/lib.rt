@@ -271,7 +271,7 @@ fn room_in(edits: [SetEdit; MOST_EDITS], count: usize, t: Table, n: usize) -> Se
 }
 
 // The first refusal of two.
-pub fn or_next(a: SetAnswer, b: SetAnswer) -> SetAnswer
+fn or_next(a: SetAnswer, b: SetAnswer) -> SetAnswer
     ensures { λ r. ⌜ r ≡ orNext a b ⌝ }
 {
     let answer = a.answer;
