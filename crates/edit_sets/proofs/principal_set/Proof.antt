@@ -2,6 +2,7 @@
 -- and then the other edits are made (`Sets`). Assumes nothing.
 use mathlib.Core.Path.{_≡_, sym, _∙_}
 use mathlib.Core.Bool.{true}
+use Prim.Native.Nat.{_≤_}
 use native.Mathlib.Omega.{arith}
 use borrow.Author.Needs.{needs}
 use borrow.Author.Tests.{not-true, not-false}
@@ -12,7 +13,7 @@ use Rattle.image.specs.Store.{isSound}
 use Rattle.image.proofs.Surveys.{store-laid, store-bad}
 use Rattle.edit_rules.specs.Edits.{Caller, callerOf, legalCaller}
 use Rattle.edit_rows.proofs.Stores.{not-done, sound-laid}
-use Rattle.set_rules.specs.Sets.{isSet}
+use Rattle.set_rules.specs.Sets.{mostEdits, isSet}
 use Rattle.set_rules.specs.Handed.{editsOf}
 use Rattle.set_rules.specs.Made.{ofShape}
 use Rattle.set_rules.proofs.Promises.{set-unsound-as, makes-sound}
@@ -56,6 +57,13 @@ returns-2 c =
 is-a-set : (e : tie.Else1) → let a = start (surveyed (e .before .before)) .args in isSet (editsOf (a .set) (a .bytes .now)) ≡ true
 is-a-set e = sym (e .before .is-set .ensures) ∙ not-false _ (e .if1 .left)
 
+few-at : (e : tie.Else1) → start (surveyed (e .before .before)) .args .set .count ≤ mostEdits
+few-at e =
+    let k = e .before .before in
+    let v = surveyed k in
+    let a = start v .args in
+    sets.few (caller (start v)) (a .set) (a .bytes .now) (handed-bytes v) (a .store .now) (laid k .0) (is-a-set e)
+
 returns-3 : tie.Need-returns-3
 returns-3 c =
     let j = c .before .before in
@@ -78,14 +86,9 @@ standing-of-requires c κs = let k = set-at (c .before .before) .before .before 
 judge-edits-requires : tie.Need-judge-edits-requires
 judge-edits-requires c κs =
     let z = c .before in
-    let u = z .before .before .before in
-    let e = set-at u in
+    let e = set-at (z .before .before .before) in
     let k = e .before .before in
-    let v = surveyed k in
-    let a = start v .args in (
-      sets.few (caller (start v)) (a .set) (a .bytes .now) (handed-bytes v) (a .store .now) (laid k .0) (is-a-set e),
-      record { sound = laid k .0; laid = laid k .1; stands = z .standing-of .ensures .lies },
-    )
+    (few-at e, record { sound = laid k .0; laid = laid k .1; stands = z .standing-of .ensures .lies })
 
 abbrev stood-at : tie.After-judge-edits → tie.After-standing-of
 stood-at g = g .before .before
@@ -106,15 +109,12 @@ returns-4 c =
 
 judge-room-requires : tie.Need-judge-room-requires
 judge-room-requires c κs =
-    let g = c .before .before in
-    let u = legal-at g in
+    let u = legal-at (c .before .before) in
     let e = set-at u in
     let k = e .before .before in
     let v = surveyed k in
-    let a = start v .args in (
-      sets.few (caller (start v)) (a .set) (a .bytes .now) (handed-bytes v) (a .store .now) (laid k .0) (is-a-set e),
-      sets.limited (caller (start v)) (a .set) (a .bytes .now) (handed-bytes v) (a .store .now) (laid k .0) (is-a-set e) (is-legal u) (laid k .1),
-    )
+    let a = start v .args in
+    (few-at e, sets.limited (caller (start v)) (a .set) (a .bytes .now) (handed-bytes v) (a .store .now) (laid k .0) (is-a-set e) (is-legal u) (laid k .1))
 
 returns-5 : tie.Need-returns-5
 returns-5 c =
@@ -136,13 +136,7 @@ abbrev judged-at : tie.After-judge-room → tie.After-judge-edits
 judged-at r = r .before .before .before
 
 make-all-requires : tie.Need-make-all-requires
-make-all-requires c κs =
-    let u = legal-at (judged-at (room-at c)) in
-    let e = set-at u in
-    let k = e .before .before in
-    let v = surveyed k in
-    let a = start v .args in
-    (sets.few (caller (start v)) (a .set) (a .bytes .now) (handed-bytes v) (a .store .now) (laid k .0) (is-a-set e), laid k .0)
+make-all-requires c κs = let e = set-at (legal-at (judged-at (room-at c))) in (few-at e, laid (e .before .before) .0)
 
 make-all-requires-2 : tie.Need-make-all-requires-2
 make-all-requires-2 c κs =
