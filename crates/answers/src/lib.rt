@@ -6,7 +6,7 @@ ghost use Rattle.answers.specs.Numbers.{cause_number, decision_number, fault_num
 ghost use Rattle.answers.specs.Counts.{counted_number, step_of, Counts};
 
 // Why a decision refuses: RFC 3415's errorIndication.
-#[derive(Drop)]
+#[derive(Clone, Copy)]
 pub enum Cause {
     NoSuchContext,
     NoGroupName,
@@ -16,14 +16,14 @@ pub enum Cause {
 }
 
 // What RFC 3415 decides of a request.
-#[derive(Drop)]
+#[derive(Clone, Copy)]
 pub enum Decision {
     Allowed,
     Refused(Cause),
 }
 
 // Why a call does nothing: what it was lent or handed is not in order.
-#[derive(Drop)]
+#[derive(Clone, Copy)]
 pub enum Fault {
     NotSound,
     OutOfRange,
@@ -40,14 +40,14 @@ pub enum Fault {
 }
 
 // The answer of a decision request.
-#[derive(Drop)]
+#[derive(Clone, Copy)]
 pub enum Answer {
     Decided(Decision),
     Faulty(Fault),
 }
 
 // The answer of a call that writes into a lent buffer: how many elements it has written, or why none.
-#[derive(Drop)]
+#[derive(Clone, Copy)]
 pub enum Written {
     Length(usize),
     Unwritten(Fault),
@@ -119,7 +119,7 @@ pub fn written_number(w: Written) -> u32
 // ---- the four counts of refused requests: the tally is lent by reference and counted up in its place
 
 // The counts of the 1997 draft (snmpV3AcStats), each with RFC 3415's causes that add to it.
-#[derive(Drop)]
+#[derive(Clone, Copy)]
 pub struct Tally {
     pub unknown_contexts: u32, // noSuchContext
     pub no_groups: u32, // noGroupName
@@ -128,7 +128,7 @@ pub struct Tally {
 }
 
 // The answer of the counting call.
-#[derive(Drop)]
+#[derive(Clone, Copy)]
 pub enum Counted {
     Done,
     Faulty(Fault),
@@ -145,7 +145,7 @@ pub fn counted_number(c: Counted) -> u32
 }
 
 // The tally after an answer, and the answer of the call.
-#[derive(Drop)]
+#[derive(Clone, Copy)]
 pub struct Step {
     pub tally: Tally,
     pub answer: Counted,

@@ -12,7 +12,7 @@ use line_fields::{Kind, MOST_FIELDS, REQUEST_FIELDS};
 use text_words::Word;
 
 // What a line asks for.
-#[derive(Drop)]
+#[derive(Clone, Copy)]
 pub enum Verb {
     Decide,
     Owner,
@@ -61,7 +61,7 @@ fn match_named(word: &[u8]) -> Verb
 }
 
 // What the words in front name, and where the one behind them begins.
-#[derive(Drop)]
+#[derive(Clone, Copy)]
 pub struct Named {
     pub verb: Verb,
     pub next: usize,

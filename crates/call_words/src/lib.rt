@@ -19,7 +19,7 @@ use text_words::LONGEST_LINE;
 // ---- a line read
 
 // What was read of a line: what it asks for, and the slots of its fields.
-#[derive(Drop)]
+#[derive(Clone, Copy)]
 pub struct Read {
     pub verb: Verb,
     pub slots: [Slot; MOST_FIELDS],

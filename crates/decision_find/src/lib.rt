@@ -13,14 +13,14 @@ ghost use Rattle.decision_find.specs.Found.{Chosen, first_of, RowsTo, rows_of_vi
 use image_layout::Extent;
 
 // A row's place in the image.
-#[derive(Drop)]
+#[derive(Clone, Copy)]
 pub enum Found {
     Row(usize, usize),
     Nothing,
 }
 
 // The rows of the view table up to one of them, and where that one ends.
-#[derive(Drop)]
+#[derive(Clone, Copy)]
 pub struct ViewRows {
     pub rows: Extent,
     pub end: usize,

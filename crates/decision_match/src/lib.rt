@@ -24,7 +24,7 @@ use image_layout::Extent;
 use rows::{KEY_MAX, MODEL_MAX, Step, Table};
 
 // Which view row decides: the length of its key and its type, or that none matches.
-#[derive(Drop)]
+#[derive(Clone, Copy)]
 pub enum ViewMatch {
     Row(usize, u8),
     Nothing,
@@ -32,7 +32,7 @@ pub enum ViewMatch {
 }
 
 // Which access row is chosen: the length of its key, or that there is no candidate.
-#[derive(Drop)]
+#[derive(Clone, Copy)]
 pub enum AccessMatch {
     Row(usize),
     Nothing,

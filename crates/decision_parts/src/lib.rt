@@ -21,7 +21,7 @@ use decision_views::INCLUDED;
 use image_layout::{Extent, Layout};
 
 // A view: its name lies from `from` to `to` in the image, and `rows` holds all its rows.
-#[derive(Drop)]
+#[derive(Clone, Copy)]
 pub struct NamedView {
     pub from: usize,
     pub to: usize,
@@ -29,14 +29,14 @@ pub struct NamedView {
 }
 
 // What steps 1 to 4 come to.
-#[derive(Drop)]
+#[derive(Clone, Copy)]
 pub enum Standing {
     Denied(Cause),
     Viewed(NamedView),
 }
 
 // That, and the rows that steps 2 and 3 chose, as far as the steps got.
-#[derive(Drop)]
+#[derive(Clone, Copy)]
 pub struct Authorized {
     pub mapping: Found,
     pub access: Found,

@@ -152,7 +152,7 @@ fn judge_by(w: &[u8], standing: Standing, s: Shape, t: Table, key: &[u8]) -> Dec
 // ---- admission
 
 // What a legal edit by a principal is answered before its row is looked at, if anything is.
-#[derive(Drop)]
+#[derive(Clone, Copy)]
 pub enum Admission {
     Granted,
     Denied(Edited),

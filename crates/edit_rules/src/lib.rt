@@ -10,7 +10,7 @@ use decision::{AUTH_PRIV, LONGEST_NAME, NO_AUTH_NO_PRIV};
 use rows::{MODEL_MAX, Shape};
 
 // What an edit does with a row: create one that is not held, change or remove one that is.
-#[derive(Drop)]
+#[derive(Clone, Copy)]
 pub enum Operation {
     Create,
     Change,
@@ -39,7 +39,7 @@ pub fn is_create(o: Operation) -> bool
 }
 
 // The answer of an edit.
-#[derive(Drop)]
+#[derive(Clone, Copy)]
 pub enum Edited {
     Done,
     Barred(Cause),

@@ -38,7 +38,7 @@ pub fn judge_handed(o: Operation, t: Table, bytes: &[u8]) -> Step
 }
 
 // A sound store and legal bytes: where the tables lie, and where the key ends.
-#[derive(Drop)]
+#[derive(Clone, Copy)]
 enum Prepared {
     Ready(Layout, usize),
     Unready(Fault),

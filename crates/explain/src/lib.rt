@@ -22,7 +22,7 @@ use rows::ROW_MAX;
 // ---- step 5
 
 // The decision, and the view row that it was made by.
-#[derive(Drop)]
+#[derive(Clone, Copy)]
 pub struct Judged {
     pub view: Found,
     pub decision: Decision,

@@ -4,14 +4,14 @@
 use answers::Answer;
 
 // A row that is shown, of so many bytes; or none.
-#[derive(Drop)]
+#[derive(Clone, Copy)]
 pub enum Shown {
     Row(usize),
     Nothing,
 }
 
 // The answer, and the rows that steps 2, 3 and 5 picked, as far as the steps got.
-#[derive(Drop)]
+#[derive(Clone, Copy)]
 pub struct Explained {
     pub answer: Answer,
     pub mapping: Shown,

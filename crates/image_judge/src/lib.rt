@@ -11,7 +11,7 @@ use image_layout::{Extent, HEADER, Layout};
 use rows::{Step, Table};
 
 // What an image was found to be.
-#[derive(Drop)]
+#[derive(Clone, Copy)]
 pub enum Surveyed {
     Laid(Layout),
     Bad(Fault),

@@ -9,7 +9,7 @@ ghost use Rattle.image_layout.specs.Bisection.{Between, MiddleRow};
 pub const HEADER: usize = 8;
 
 // Where a table's rows lie: their 2-byte lengths from `lengths` on, their bytes from `rows` on.
-#[derive(Drop)]
+#[derive(Clone, Copy)]
 pub struct Extent {
     pub lengths: usize,
     pub rows: usize,
@@ -17,7 +17,7 @@ pub struct Extent {
 }
 
 // Where each table of an image lies.
-#[derive(Drop)]
+#[derive(Clone, Copy)]
 pub struct Layout {
     pub contexts: Extent,
     pub mappings: Extent,
@@ -76,7 +76,7 @@ pub fn following(x: Extent, end: usize, n: usize) -> Extent
 // ---- a bisection over rows
 
 // A row, and where it lies.
-#[derive(Drop)]
+#[derive(Clone, Copy)]
 pub struct Middle {
     pub row: usize,
     pub from: usize,

@@ -12,7 +12,7 @@ use image_judge::Surveyed;
 use image_layout::{Extent, HEADER, Layout};
 
 // The answer of reading an image into a store.
-#[derive(Drop)]
+#[derive(Clone, Copy)]
 pub enum Loaded {
     Done,
     Faulty(Fault),

@@ -15,7 +15,7 @@ use reader::Part;
 use rows::{KEY_MAX, Table};
 
 // A decoder's answer: the table, the column and the length of the key.
-#[derive(Drop)]
+#[derive(Clone, Copy)]
 pub enum Decoded {
     Instance(Table, u32, usize),
     Faulty(Fault),
@@ -79,7 +79,7 @@ fn is_of_table(t: Table, oid: &[u32]) -> bool
 }
 
 // The table whose base begins an identifier, if one does.
-#[derive(Drop)]
+#[derive(Clone, Copy)]
 enum Found {
     In(Table),
     Nowhere,

@@ -20,7 +20,7 @@ pub const BASE_ROOM: usize = 11;
 const MODEL_AND_LEVEL: usize = 5;
 
 // The columns that document 01 lists for a table: they follow one another.
-#[derive(Drop)]
+#[derive(Clone, Copy)]
 pub struct Columns {
     pub first: u8,
     pub count: usize,
@@ -113,7 +113,7 @@ fn put_numbers(out: &mut [u32], at: usize, bytes: &[u8], from: usize, n: usize)
 }
 
 // Where the numbers of four bytes lie in a key: together, from a place on.
-#[derive(Drop)]
+#[derive(Clone, Copy)]
 pub struct Quads {
     pub from: usize,
     pub count: usize,

@@ -14,7 +14,7 @@ use rows::{Form, Table};
 // ---- the parts of an index
 
 // The part that was looked for, if it is there and in range: with the reader's place behind it, and how many parts are left there.
-#[derive(Drop)]
+#[derive(Clone, Copy)]
 pub enum Part {
     Of(u32, usize, usize),
     Amiss,
@@ -55,7 +55,7 @@ fn count(index: &[u32], at: usize, lo: u32, hi: u32) -> Part
 // ---- a part as bytes
 
 // How many bytes a part takes in the key.
-#[derive(Drop)]
+#[derive(Clone, Copy)]
 pub enum Size {
     One,
     Four,
@@ -93,7 +93,7 @@ fn write_number(w: Size, key: &mut [u8], at: usize, x: u32) -> usize
 // ---- the fields of an index
 
 // The place behind what was read, in the index and in the key, if it could be read.
-#[derive(Drop)]
+#[derive(Clone, Copy)]
 pub enum Read {
     Next(usize, usize),
     Bad,

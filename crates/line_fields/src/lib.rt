@@ -23,7 +23,7 @@ pub const MOST_FIELDS: usize = 6;
 pub const LINE_ROOM: usize = 4 * (LONGEST_LINE + 1);
 
 // The kinds of fields.
-#[derive(Drop)]
+#[derive(Clone, Copy)]
 pub enum Kind {
     Number,
     Name,
@@ -106,7 +106,7 @@ pub fn field(k: Kind, line: &[u8], at: usize, bytes: &mut [u8], parts: &mut [u32
 // ---- the fields of a line
 
 // Whether a line says a field of each kind and nothing else, and the slots of its fields.
-#[derive(Drop)]
+#[derive(Clone, Copy)]
 pub struct Fields {
     pub whole: bool,
     pub slots: [Slot; MOST_FIELDS],

@@ -2,7 +2,7 @@
 -- Two such lists with the same element at each index begin with the same element: were one first index before the other, it would be before all
 -- of the other list, and nothing would stand there. At that index nothing stands in either rest, and at every other index the rests have what the
 -- lists have. Assumes nothing.
-use mathlib.Core.Path.{◌≡◌, refl, sym, ap₂, ◌∙◌}
+use mathlib.Core.Path.{◌≡◌, refl, sym, ap, ap₂, ◌∙◌}
 use mathlib.Core.Bool.{true, false, cond}
 use mathlib.Core.List.{List, [], ◌∷◌}
 use mathlib.Core.Option.{Option, none, some}
@@ -51,6 +51,6 @@ module _ {A : Type 0} (index : A → List ℕ) where
 
       equal : (((z : A) → at (index z) xs ≡ at (index z) ys) → xs ≡ ys) → index x ≡ index y → x ∷ xs ≡ y ∷ ys
       equal rests q =
-          let e : some x ≡ some y = sym (at_first x xs) ∙ h x ∙ rw q (at_first y ys) in
+          let e : some x ≡ some y = sym (at_first x xs) ∙ h x ∙ ap (λ i. at i (y ∷ ys)) q ∙ at_first y ys in
           let k : x ≡ y = cc in
           ap₂ (λ u us. u ∷ us) k (rests (rest q))

@@ -1,6 +1,6 @@
 -- Of one or more elements, one that no other is ahead of: carried along the list, it gives way to each that is ahead of it. By any order in which
 -- elements may stand level, such as that of their indices, forwards or backwards. Assumes nothing.
-use mathlib.Core.Path.{◌≡◌, refl, subst, ◌∙◌}
+use mathlib.Core.Path.{◌≡◌, refl, sym, subst, ◌∙◌}
 use mathlib.Core.Bool.{Bool, true, false, cond, not}
 use mathlib.Core.List.{List, [], ◌∷◌}
 use Prim.Native.Nat.{ℕ}
@@ -60,11 +60,13 @@ module _ {A : Type 0} (ahead : A → A → Bool) (o : Ahead ahead) where
       split (ahead y x)
       (λ e.
       let ih = foremost-clear y ys in
-      rw e (and_both (clear_first x y (foremost y ys) e (and_left _ _ ih)) ih))
+      let q : foremost x (y ∷ ys) ≡ foremost y ys = rw e in
+      subst (λ m. every (clear m) (x ∷ y ∷ ys) ≡ true) (sym q) (and_both (clear_first x y (foremost y ys) e (and_left _ _ ih)) ih))
       (λ e.
       let ih = foremost-clear x ys in
       let a : clear (foremost x ys) x ≡ true = and_left _ _ ih in
-      rw e (and_both a (and_both (clear_second x y (foremost x ys) e a) (and_right (clear (foremost x ys) x) _ ih))))
+      let q : foremost x (y ∷ ys) ≡ foremost x ys = rw e in
+      subst (λ m. every (clear m) (x ∷ y ∷ ys) ≡ true) (sym q) (and_both a (and_both (clear_second x y (foremost x ys) e a) (and_right (clear (foremost x ys) x) _ ih))))
 
   foremost-among : (p : A → Bool) (x : A) (xs : List A) → p (foremost x xs) ≡ true → any p (x ∷ xs) ≡ true
   foremost-among p x [] h = or_left false h

@@ -81,7 +81,7 @@ pub fn are_same(a: &[u8], b: &[u8]) -> bool
 // ---- order
 
 // How one list of octets stands to another.
-#[derive(Drop)]
+#[derive(Clone, Copy)]
 pub enum Order {
     Below,
     Equal,

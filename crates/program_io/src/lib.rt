@@ -18,7 +18,7 @@ use libc::{ENOENT, STDIN_FILENO, STDOUT_FILENO};
 pub const FILE_ROOM: usize = ROOM + 1;
 
 // The front of a file, `len` octets of it.
-#[derive(Drop)]
+#[derive(Clone, Copy)]
 pub struct File {
     pub octets: [u8; FILE_ROOM],
     pub len: usize,
@@ -80,7 +80,7 @@ const MOST_READS: u64 = 140737488355328;
 
 // The desk: the reads that may still be made, none behind the input's end; whether standard output takes what is written; where the rest of the piece
 // lies; how many lines are taken; how much is there of a line that is begun; and whether a line was found, and its length.
-#[derive(Drop)]
+#[derive(Clone, Copy)]
 pub struct Desk {
     pub reads: u64,
     pub writable: bool,
@@ -160,7 +160,7 @@ pub fn refill(d: Desk, piece: &mut [u8]) -> Desk
 // ---- lines
 
 // How much of a line is begun, and where the piece was left: at a newline, or at its end.
-#[derive(Drop)]
+#[derive(Clone, Copy)]
 pub struct Continued {
     pub begun: usize,
     pub end: usize,

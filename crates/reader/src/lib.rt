@@ -12,7 +12,7 @@ pub struct Reader<'a> {
 }
 
 // What stands at a place: a sub-identifier, or the end.
-#[derive(Drop)]
+#[derive(Clone, Copy)]
 pub enum Part {
     Of(u32),
     End,
@@ -21,7 +21,7 @@ pub enum Part {
 // ---- the work, on the slice and the place
 
 // The part at a place, and the place behind it.
-#[derive(Drop)]
+#[derive(Clone, Copy)]
 pub struct Step {
     pub part: Part,
     pub at: usize,
@@ -81,7 +81,7 @@ pub fn left<'a>(r: Reader<'a>) -> usize
 // ---- for callers that hold no reader
 
 // The part at a place, the place behind it, and how many parts are left there.
-#[derive(Drop)]
+#[derive(Clone, Copy)]
 pub struct Read {
     pub part: Part,
     pub at: usize,

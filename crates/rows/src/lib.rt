@@ -11,7 +11,7 @@ ghost use Rattle.rows.specs.Steps.{reached, sequence_step, integer_step, field_s
 use answers::Fault;
 
 // The tables, in document 01's order.
-#[derive(Drop)]
+#[derive(Clone, Copy)]
 pub enum Table {
     Context,
     Mapping,
@@ -20,21 +20,21 @@ pub enum Table {
 }
 
 // What bytes or words say of a row: all of it, or its key alone.
-#[derive(Drop)]
+#[derive(Clone, Copy)]
 pub enum Shape {
     Row,
     Key,
 }
 
 // The place that is reached, or what is wrong before it.
-#[derive(Drop)]
+#[derive(Clone, Copy)]
 pub enum Step {
     At(usize),
     Bad(Fault),
 }
 
 // A field's form: a name or a mask, a subtree, a number of four bytes or of one; and its range, of octets, sub-identifiers or the number itself.
-#[derive(Drop)]
+#[derive(Clone, Copy)]
 pub enum Form {
     Name(u8, u8),
     Subtree(u8, u8),

@@ -8,7 +8,7 @@ use rows::Table;
 pub const MOST_EDITS: usize = 8;
 
 // An edit of a set: what it does, in which table, and which of the lent bytes are its row's or its key's.
-#[derive(Drop)]
+#[derive(Clone, Copy)]
 pub struct SetEdit {
     pub operation: Operation,
     pub table: Table,
@@ -17,21 +17,21 @@ pub struct SetEdit {
 }
 
 // A set of edits, in their order: the first `count` places. One that counts more places than there are is no set.
-#[derive(Drop)]
+#[derive(Clone, Copy)]
 pub struct EditSet {
     pub edits: [SetEdit; MOST_EDITS],
     pub count: usize,
 }
 
 // The answer of a set, and the position, counted from 1, of the edit that it is about; 0 where it is about none.
-#[derive(Drop)]
+#[derive(Clone, Copy)]
 pub struct SetAnswer {
     pub answer: Edited,
     pub position: usize,
 }
 
 // What edits bring into a table and take out of it, and the position of the first create there, 0 where there is none.
-#[derive(Drop)]
+#[derive(Clone, Copy)]
 pub struct Weight {
     pub creates: usize,
     pub removals: usize,

@@ -36,7 +36,7 @@ pub fn set_end(line: &[u8]) -> Word
 // ---- the principal
 
 // A principal's model, the slot of its name, its level, and where the next word begins.
-#[derive(Drop)]
+#[derive(Clone, Copy)]
 pub enum Principal {
     Said(u32, Slot, u32, usize),
     Malformed,
@@ -67,7 +67,7 @@ pub fn read_caller(line: &[u8], at: usize, bytes: &mut [u8], parts: &mut [u32]) 
 // ---- the edits
 
 // What stands behind an edit: nothing, the word `;` and the place of the next edit, or what may not stand there.
-#[derive(Drop)]
+#[derive(Clone, Copy)]
 pub enum Behind {
     Nothing,
     Edit(usize),
@@ -128,7 +128,7 @@ fn with_edit(s: EditSet, e: Slot) -> EditSet
 }
 
 // Whether words say edits and nothing else, and the set of them.
-#[derive(Drop)]
+#[derive(Clone, Copy)]
 pub struct ReadSet {
     pub whole: bool,
     pub set: EditSet,

@@ -11,7 +11,7 @@ use octets::Order;
 use rows::Table;
 
 // The place of a key in a table: which row it is or would be, where that row's bytes lie, and whether it is held.
-#[derive(Drop)]
+#[derive(Clone, Copy)]
 pub struct Place {
     pub row: usize,
     pub from: usize,

@@ -99,7 +99,7 @@ pub fn field(f: Form, word: &[u8], out: &mut [u8], from: usize) -> Filled
 // ---- the fields of a row
 
 // Up to where a lent buffer is filled, and where the next word begins.
-#[derive(Drop)]
+#[derive(Clone, Copy)]
 pub enum Placed {
     To(usize, usize),
     Malformed,

@@ -23,7 +23,7 @@ use text_words::Word;
 // ---- read from words
 
 // Where a field of a line lies in its buffer; and its operation and table, where it has them.
-#[derive(Drop)]
+#[derive(Clone, Copy)]
 pub struct Slot {
     pub operation: Operation,
     pub table: Table,
@@ -32,7 +32,7 @@ pub struct Slot {
 }
 
 // A field's slot, and where the next word begins.
-#[derive(Drop)]
+#[derive(Clone, Copy)]
 pub enum Found {
     At(Slot, usize),
     Malformed,

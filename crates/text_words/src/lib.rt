@@ -9,21 +9,21 @@ ghost use Rattle.text_words.specs.Words.{Fills, decimals, decimal as Words·deci
 pub const LONGEST_LINE: usize = 2048;
 
 // The number that a word says, below 2^32.
-#[derive(Drop)]
+#[derive(Clone, Copy)]
 pub enum Number {
     Of(u32),
     Bad,
 }
 
 // Where a word ends.
-#[derive(Drop)]
+#[derive(Clone, Copy)]
 pub enum Word {
     To(usize),
     Missing,
 }
 
 // Up to where a lent buffer is filled.
-#[derive(Drop)]
+#[derive(Clone, Copy)]
 pub enum Filled {
     Upto(usize),
     Malformed,

@@ -10,7 +10,7 @@ ghost use Rattle.walk_compare.specs.Onward.{GoesOn};
 
 // Where an identifier goes on behind a front: from which of its parts on it is to be compared, none of them where all that has the front is above it.
 // Behind: it is above all that has the front.
-#[derive(Drop)]
+#[derive(Clone, Copy)]
 pub enum Onward {
     From(usize),
     Behind,

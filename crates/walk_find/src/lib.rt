@@ -22,7 +22,7 @@ use rows::Table;
 use walk_compare::Onward;
 
 // The row at which a walk stops: its table, the column, and where it lies in the image.
-#[derive(Drop)]
+#[derive(Clone, Copy)]
 pub enum Met {
     Row(Table, u32, usize, usize),
     Nothing,

@@ -8,7 +8,7 @@ use answers::{Cause, Fault};
 use rows::Table;
 
 // The next instance: its parts, its table and column, its key's bytes. That none follows (RFC 3416's endOfMibView), a cause, a fault.
-#[derive(Drop)]
+#[derive(Clone, Copy)]
 pub enum Walked {
     Next(usize, Table, u32, usize),
     EndOfMibView,
