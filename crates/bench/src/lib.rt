@@ -1,4 +1,5 @@
-// The calls on a store under C names, for the benchmark to measure beside another implementation. An agent in C links the crate `dugwalen`.
+// The calls on a store, for the benchmark to measure beside another implementation: the crate `bench_c` exports them. An agent in C links the
+// archive of `dugwalen_c`.
 #![tactic(auto)]
 
 ghost use Rattle.std.specs.Prelude.{◌≡◌};
@@ -53,8 +54,7 @@ fn length_number(w: Written) -> u64
 }
 
 // `is_access_allowed`, by its number.
-#[unsafe(no_mangle)]
-pub extern "C" fn bench_decide(
+pub fn bench_decide(
     store: &[u8],
     model: u32,
     name: &[u8],
@@ -72,8 +72,7 @@ pub extern "C" fn bench_decide(
 }
 
 // The owner's edit, by its number.
-#[unsafe(no_mangle)]
-pub extern "C" fn bench_owner_edit(
+pub fn bench_owner_edit(
     store: &mut [u8],
     operation: u32,
     table: u32,
@@ -91,16 +90,14 @@ pub extern "C" fn bench_owner_edit(
 }
 
 // An image read into a store, by its number.
-#[unsafe(no_mangle)]
-pub extern "C" fn bench_read_image(image: &[u8], store: &mut [u8; ROOM]) -> u32
+pub fn bench_read_image(image: &[u8], store: &mut [u8; ROOM]) -> u32
     ensures { Numbered loaded_number (Reads image.now store.old store.new) result }
 {
     image_transfer::loaded_number(image_transfer::read_image(image, store))
 }
 
 // A store's image written, by its length or its number.
-#[unsafe(no_mangle)]
-pub extern "C" fn bench_write_image(store: &[u8], out: &mut [u8]) -> u64
+pub fn bench_write_image(store: &[u8], out: &mut [u8]) -> u64
     ensures { Numbered length_number (Writes (held store.now) out.old out.new) result }
 {
     length_number(image_transfer::write_image(store, out))

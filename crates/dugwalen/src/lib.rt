@@ -1,4 +1,4 @@
-// The decision for an agent in C: over the bytes of a table image where they lie, with no store and no heap.
+// The decision for an agent in C: over the bytes of a table image where they lie, with no store and no heap. The crate `dugwalen_c` exports it.
 #![tactic(auto)]
 
 ghost use Rattle.std.specs.Prelude.{◌≡◌};
@@ -53,8 +53,7 @@ fn on_tables(
 
 // RFC 3415's isAccessAllowed for C (include/dugwalen.h): a slice passes as a pointer and then a length, the variable in parts of 4 bytes, big-endian.
 // The numbers are 32 bits wide, so that 257 is out of range and not 1.
-#[unsafe(no_mangle)]
-pub extern "C" fn dugwalen_is_access_allowed(
+pub fn dugwalen_is_access_allowed(
     image: &[u8],
     security_model: u32,
     security_name: &[u8],

@@ -13,7 +13,7 @@ use Rattle.rows.specs.declared.Table.{Table}
 use Rattle.rows.specs.declared.Table.TheVariants.{Context, Mapping, Access, View}
 use Rattle.image_layout.specs.declared.Extent.{Extent}
 use Rattle.image_layout.specs.declared.Layout.{Layout}
-use Rattle.image_layout.specs.Layout.{pair, pairs, total, end_of, Inside, following, header, laid_out, extent_of, image_length, most_rows}
+use Rattle.image_layout.specs.Layout.{pair, pairs, total, Inside, following, header, laid_out, extent_of, image_length, most_rows}
 
 -- ---- sums
 

@@ -4,7 +4,7 @@ use mathlib.Core.Path.{◌≡◌, sym, ap, refl, ◌∙◌}
 use mathlib.Core.List.{List, [], ◌∷◌, ◌++◌}
 use Prim.Native.Nat.{ℕ, ◌+◌, ◌≤◌, ◌<◌}
 use native.Mathlib.Omega.{arith}
-use lib.ListN.{length, take, drop, get_or, set}
+use lib.ListN.{length, take, get_or, set}
 use lib.Seq.{length-take-le, take-add, take_all, drop-cons}
 use Rattle.numbers.specs.Laid.{laid}
 use Rattle.numbers.proofs.Laid.{laid_nil, laid-set, laid-laid, length-laid}

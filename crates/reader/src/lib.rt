@@ -5,7 +5,7 @@
 ghost use Rattle.std.specs.Prelude.{◌≡◌, ◌-◌, length};
 ghost use Rattle.reader.specs.Reading.{step_at, reader_at, ReadsOn, read_from};
 
-#[derive(Drop)]
+#[derive(Clone, Copy)]
 pub struct Reader<'a> {
     pub parts: &'a [u32],
     pub at: usize,

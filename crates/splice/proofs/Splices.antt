@@ -1,12 +1,12 @@
 -- Laws of `spliced` and `spliced_two`. `new` goes where the elements moved away from, which makes the list spliced.
 -- Of two parts, what stands between them and what stands behind them can be moved in one order at least, and `new` goes between.
 -- For the callers: in a list of parts `head` and `new` are in two parts' places. Assumes nothing.
-use mathlib.Core.Path.{◌≡◌, sym, ap, ◌∙◌}
+use mathlib.Core.Path.{◌≡◌, ap, ◌∙◌}
 use mathlib.Core.List.{List, ◌++◌, append_assoc}
 use Prim.Native.Nat.{ℕ, ◌+◌, ◌-◌, ◌≤◌}
 use native.Mathlib.Omega.{arith}
 use lib.ListN.{length, take, drop, length-append, length-drop}
-use lib.Seq.{drop_at, drop-drop, length-take-le, paste, take_at, take-length}
+use lib.Seq.{drop_at, length-take-le, paste, take_at, take-length}
 use Rattle.splice.specs.Moves.{moved}
 use Rattle.splice.proofs.Moves.{front_same, drop_past}
 use Rattle.splice.specs.Splice.{spliced, spliced_two}

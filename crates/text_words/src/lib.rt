@@ -34,7 +34,10 @@ pub fn end_of(s: &[u8], at: usize, mark: u8) -> usize
     requires { at ≤ length s.now }
     ensures { Ends mark s.now at result }
 {
-    bytes::scan::find(s, at, s.len(), mark)
+    match memchr::memchr(mark, &s[at..]) {
+        Some(i) => at + i,
+        None => s.len(),
+    }
 }
 
 // Where the word that begins at `at` ends. Behind the line's end there is none.

@@ -1,6 +1,4 @@
 use mathlib.Core.Path.{sym, ◌∙◌}
-use mathlib.Core.Logic.{⊎_elim}
-use Prim.Native.Nat.{◌-◌}
 use native.Mathlib.Omega.{arith}
 use Rattle.octets.proofs.Sames.{take_next, take-four}
 use Rattle.octets.proofs.Orders.{before-differ, before-four, before-ends}
@@ -25,13 +23,16 @@ returns-then-x-y c =
 
 pub loop-i-init : goal.loop-i-init
 loop-i-init c =
-    elim c.if-n-i-ge4.branch [ then-n-i-ge4+else-x-y u ↦
-        rw u.i-is
-        (omega arith,
-        take-four _ _ (λ i. omega (arith, c.type_inv.a i)) (λ i. omega (arith, c.type_inv.b i))
-            c.skip-i.result (omega arith) (omega arith) c.skip-i.ensures.equal
-            (sym u.quad_at-x.ensures.value ∙ u.if-x-y.false ∙ u.quad_at-y.ensures.value))
-    | else-n-i-ge4 u ↦ rw u.i-is (omega arith, c.skip-i.ensures.equal) ]
+    elim c.if-n-i-ge4.branch [
+      | then-n-i-ge4+else-x-y u ↦
+          rw u.i-is (
+            omega arith,
+            take-four _ _ (λ i. omega (arith, c.type_inv.a i)) (λ i. omega (arith, c.type_inv.b i))
+                c.skip-i.result (omega arith) (omega arith) c.skip-i.ensures.equal
+                (sym u.quad_at-x.ensures.value ∙ u.if-x-y.false ∙ u.quad_at-y.ensures.value),
+          )
+      | else-n-i-ge4 u ↦ rw u.i-is (omega arith, c.skip-i.ensures.equal)
+    ]
 
 pub returns-then-x-y-2 : goal.returns-then-x-y-2
 returns-then-x-y-2 c =

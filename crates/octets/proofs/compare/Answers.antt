@@ -1,5 +1,4 @@
 use mathlib.Core.Path.{refl, sym}
-use Prim.Native.Nat.{◌-◌}
 use native.Mathlib.Omega.{arith}
 use Rattle.octets.proofs.Sames.{take_next}
 use Rattle.octets.proofs.Orders.{order_lt, order-gt, order-shorter, order-longer, order-end}

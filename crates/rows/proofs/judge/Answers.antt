@@ -54,5 +54,5 @@ returns c =
     let s = c.args in
     let k = keyed s.t s.row.now c.in-At.a c.judge_front-key.ensures c.in-At.is in
     let e = fields-whole (rest_fields s.t) s.row.now c.in-At.a
-        (rw (c.key_len-k.ensures, c.row_len-n.ensures, rest-behind s.t) at c.fields-rest.ensures) c.in-At-rest.is in
+    (rw (c.key_len-k.ensures, c.row_len-n.ensures, rest-behind s.t) at c.fields-rest.ensures) c.in-At-rest.is in
     rw (k.row_fault, e, k.ends) c.whole.ensures
