@@ -44,10 +44,25 @@ counted() {
 # needs COMMAND WHAT: stops where a command is not there.
 needs() { command -v "$1" >/dev/null 2>&1 || stop "$2 is not on the PATH"; }
 
-# archive NAME: the archive of a crate, anew where the code has changed.
+# is_old FILE: it is not there, or the code has changed since it was built.
+is_old() { [ ! -e "$1" ] || [ -n "$(find crates crates.txt -path '*/out' -prune -o -type f -newer "$1" -print -quit)" ]; }
+
+# archive NAME [CRATE]: target/staticlib/libNAME.a, of the static library CRATE (or NAME), proved and built anew where the code has changed.
 archive() {
-    local file=target/staticlib/lib$1.a
-    if [ ! -e "$file" ] || [ -n "$(find crates -name '*.rt' -newer "$file")" ]; then
-        rt staticlib "$1" >/dev/null || stop "rt staticlib $1 fails; run it to see why"
+    local crate=${2:-$1} file=target/staticlib/lib$1.a
+    is_old "$file" || return 0
+    (cd "crates/$crate" && rt lib) >/dev/null || stop "rt lib fails in crates/$crate; run it there to see why"
+    mkdir -p target/staticlib
+    cp "crates/$crate/out/lib$crate.a" "$file" || stop "no archive crates/$crate/out/lib$crate.a"
+}
+
+# program NAME: target/bin/NAME, proved and built anew where the code has changed. `rt run` builds a program and then runs it, here on no input.
+program() {
+    local made=crates/$1/out/$1
+    if is_old "$made"; then
+        (cd "crates/$1" && rt run) </dev/null >/dev/null 2>&1
+        is_old "$made" && stop "rt run fails in crates/$1; run it there to see why"
     fi
+    mkdir -p target/bin
+    cp "$made" "target/bin/$1" || stop "no program $made"
 }

@@ -1,6 +1,6 @@
 -- What a line asks for, and the line that is printed for it. Assumes nothing.
 use Rattle.std.specs.Prelude.{List, [], ◌∷◌, ◌++◌, ℕ, ◌+◌, ◌≤◌, length}
-use Rattle.std.proofs.Math.Option.{Option, Option·elim}
+use Rattle.std.proofs.Math.Option.{Option, Option-elim}
 use Rattle.text_values.specs.Texts.{decimal_text, Puts}
 use Rattle.call_verbs.specs.Calls.{Asked, line_said}
 use Rattle.set_words.specs.SetWords.{set_said, set_words}
@@ -10,7 +10,7 @@ use Rattle.call_plays.specs.Plays.{Plays}
 -- ---- what a line asks for: a set of edits, or what the words in front name
 
 unfoldable pub line_asks : List ℕ → Option Asked
-line_asks line = Option·elim (set_words line) (line_said line) set_said
+line_asks line = Option-elim (set_words line) (line_said line) set_said
 
 -- ---- what is printed
 

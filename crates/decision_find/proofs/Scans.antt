@@ -53,7 +53,7 @@ module _ {R : Type 0} {t : Table} {w : List ℕ} {x : Extent} {scan : List (List
 
 -- ---- a scan for the first row that passes a test
 
-module _ {R : Type 0} {t : Table} {of : List ℕ → R} {p : R → Bool} {w : List ℕ} {x : Extent} {all : Option R} {i g o : ℕ}
+module _ {R : Type 0} {t : Table} {of : List ℕ → R} (p : R → Bool) {w : List ℕ} {x : Extent} {all : Option R} {i g o : ℕ}
     (k : Scan t w x (first_of of p) all i g o) where
   -- none is left
   pub first-none : x.count ≤ i → Chosen t of w Nothing all

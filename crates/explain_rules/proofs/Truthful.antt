@@ -23,7 +23,7 @@ use Rattle.decision_steps.specs.Request.{Request, legal_request}
 use Rattle.decision_steps.specs.Decision.{active, bears_context, maps_principal, candidate, longest_prefix, highest_level}
 use Rattle.decision_steps.specs.Decision.{chosen_access, view_for, in_view, view_rows, matches, greatest_subtree, chosen_view, included, or_refused}
 use Rattle.decision_steps.specs.Decision.{by_type, step2, step3, step4, step5, if_any, decision, if_found, mapping_row, access_row}
-use Rattle.explain_rules.specs.Explanation.{mapping_picked, access_picked, view_picked, explained, explanation}
+use Rattle.explain_rules.specs.Explanation.{mapping_picked, access_picked, view_picked, explained}
 use Rattle.explain_rules.specs.Truthful.{MappingTrue, rank, AccessTrue, ViewTrue, NoView, Because, out_of_range, no_context, no_mapping, no_candidate}
 use Rattle.explain_rules.specs.Truthful.{no_view, no_match, is_excluded, is_included, ExplainsTruly}
 use Rattle.numbers.proofs.Among.{Empty, every-among, kept-among, kept-passes, keep-among, first-among, first-none, find-among, find-passes}

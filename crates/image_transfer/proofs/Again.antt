@@ -15,7 +15,7 @@ use Rattle.rows.specs.Fields.{faults, row_bytes}
 use Rattle.rows.specs.Rows.{row_fields, context_of, mapping_of, access_of, view_of}
 use Rattle.numbers.specs.BigEndian.{Octets}
 use Rattle.rows.proofs.Inverse.{bytes-again}
-use Rattle.rows.proofs.Typed.{context-fields, mapping-fields, access-fields, view_fields}
+use Rattle.rows.proofs.Typed.{context-fields, mapping-fields, access-fields, view_fields_lem}
 use Rattle.image_layout.specs.Layout.{header, middle, layout_of, extent_of, image_end}
 use Rattle.image_judge.specs.Faults.{table_fault, tables_at, tables_in}
 use Rattle.image_layout.specs.Written.{concatenated, heads}
@@ -39,7 +39,7 @@ module _ (v : List ℕ) (b : Octets v) where
   access-again h = ap (row_bytes (row_fields Access)) (access-fields v) ∙ bytes-again (row_fields Access) v b h
 
   view-again : faults (row_fields View) v ≡ none → view_bytes (view_of v) ≡ v
-  view-again h = ap (row_bytes (row_fields View)) (view_fields v) ∙ bytes-again (row_fields View) v b h
+  view-again h = ap (row_bytes (row_fields View)) (view_fields_lem v) ∙ bytes-again (row_fields View) v b h
 
 -- the rows of a table
 table-again : {R : Type 0} (t : Table) (of : List ℕ → R) (bytes : R → List ℕ) → ((v : List ℕ) → Octets v → faults (row_fields t) v ≡ none → bytes (of v) ≡ v)

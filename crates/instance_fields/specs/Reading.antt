@@ -1,6 +1,6 @@
 -- What a step of the decoder answers, which takes what it reads from an index, and what it lays into the key. Assumes nothing.
 use Rattle.std.specs.Prelude.{◌≡◌, cond, ◌&&◌, List, [], ◌∷◌, ◌++◌, ℕ, ◌+◌, ◌-◌, ltb, leb, length, take, drop, get_or}
-use Rattle.std.proofs.Math.Option.{Option, none, some, Option·elim}
+use Rattle.std.proofs.Math.Option.{Option, none, some, Option-elim}
 use Rattle.numbers.specs.BigEndian.{Width, octet, quad, bound, bytes}
 use Rattle.rows.specs.Fields.{Field, sequence, integer, within, field_bytes, row_bytes}
 use Rattle.instance_fields.specs.declared.Read.{Read}
@@ -76,4 +76,4 @@ field_front (integer w lo hi) (x ∷ v) = cond (within lo hi x && ltb x (bound w
 
 unfoldable pub key_front : List Field → List ℕ → List ℕ
 key_front [] v = []
-key_front (k ∷ ks) v = field_front k v ++ Option·elim (parse_field k v) [] (λ p. key_front ks p.rest)
+key_front (k ∷ ks) v = field_front k v ++ Option-elim (parse_field k v) [] (λ p. key_front ks p.rest)

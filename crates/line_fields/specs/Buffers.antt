@@ -1,6 +1,6 @@
 -- What reading the fields of a line leaves in the two lent buffers, be its words well-formed or not. Assumes nothing.
 use Rattle.std.specs.Prelude.{Bool, true, false, List, [], ◌∷◌, ℕ, suc, ◌+◌, ◌-◌, ◌*◌, length}
-use Rattle.std.proofs.Math.Option.{Option, Option·elim, get_or}
+use Rattle.std.proofs.Math.Option.{Option, Option-elim, get_or}
 use Rattle.numbers.specs.Laid.{laid}
 use Rattle.edit_rules.specs.declared.Operation.TheVariants.{Remove}
 use Rattle.text_words.specs.Words.{hex_octets, dotted}
@@ -24,7 +24,7 @@ word_front says [] = []
 word_front says (w ∷ ws) = get_or (says w) []
 
 abbrev pub edit_front : List ℕ → List (List ℕ) → List ℕ
-edit_front w ws = Option·elim (operation_named w) [] (λ o. entry_front o ws)
+edit_front w ws = Option-elim (operation_named w) [] (λ o. entry_front o ws)
 
 unfoldable pub kind_front : Kind → List (List ℕ) → List ℕ
 kind_front Number ws = word_front number ws
@@ -57,4 +57,4 @@ field_into k line ws b = laid_in (in_parts k) (4 * place_in line ws) (kind_front
 -- the last words of a line read by kinds, up to the first field that is not said
 unfoldable pub fields_into : List Kind → List ℕ → List (List ℕ) → Buffers → Buffers
 fields_into [] line ws b = b
-fields_into (k ∷ ks) line ws b = Option·elim (kind_said k ws) (field_into k line ws b) (λ f. fields_into ks line f.rest (field_into k line ws b))
+fields_into (k ∷ ks) line ws b = Option-elim (kind_said k ws) (field_into k line ws b) (λ f. fields_into ks line f.rest (field_into k line ws b))

@@ -2,6 +2,8 @@
 -- had of it, and one that a newline ends is taken; at the input's end what is begun is the last line. Assumes nothing.
 use mathlib.Core.Path.{◌≡◌, refl, sym, ap, ◌∙◌}
 use mathlib.Core.Bool.{Bool, true, false, cond}
+use mathlib.Core.Logic.{◌⊎◌, ⊎_elim, inl, inr}
+use Rattle.std.specs.Prelude.{Option}
 use mathlib.Core.List.{List, [], ◌∷◌, ◌++◌, append_assoc, append-nil}
 use Prim.Native.Nat.{ℕ, zero, suc, ◌+◌, ◌-◌, ◌*◌, ◌≤◌, ◌<◌}
 use native.Mathlib.Omega.{arith}
@@ -15,10 +17,12 @@ use Rattle.text_words.proofs.Words.{run-most}
 use Rattle.program_io.specs.declared.Continued.{Continued}
 use Rattle.program_io.specs.declared.Desk.{Desk}
 use Rattle.program_io.specs.Lines.{lines_of, keep, kept, goes_on, Continues}
-use Rattle.program_io.specs.Desk.{OutputFailed}
+use Rattle.std.specs.Io.KnownBytes.{IsAtEnd}
+use Rattle.program_io.specs.Outside.{Outside, outside, InputFailed}
 use Rattle.program_io.specs.Desk.{
-  Moved,
+  OutputFailed,
   piece_room,
+  most_reads,
   Ready,
   left,
   pending,
@@ -38,13 +42,17 @@ use Rattle.program_io.proofs.Lines.{OneLine, one-line-nil, one-line-append, line
 
 -- ---- a text is written
 
-module _ {d r : Desk} {more : List ℕ} (w : Writes d r more) where
+module _ {held holds : Option (List ℕ)} {d r : Desk} {more : List ℕ} (w : Writes held holds d r more) where
+  same-reads : r.reads ≡ d.reads
+  same-reads = ap (λ x. x.reads) w.same
+
   -- it was closed before, or is now
   pub still-closed : (d.writable ≡ false → OutputFailed) → r.writable ≡ false → OutputFailed
   still-closed c e = by d.writable (w.closes e) c
 
-  pub taken-written : {piece line text : List ℕ} {lines : List (List ℕ)} → Taken d piece line text lines → Taken r piece line (text ++ more) lines
-  taken-written {piece} {line} {text} {lines} t = record {
+  pub taken-written : {from : Outside} {unread : Option (List ℕ)} {piece line text : List ℕ} {lines : List (List ℕ)}
+      → Taken from (outside unread held) d piece line text lines → Taken from (outside unread holds) r piece line (text ++ more) lines
+  taken-written {from} {unread} {piece} {line} {text} {lines} t = record {
     closed = still-closed t.closed;
     input = t.input;
     moved = λ o. w.moves o (t.moved (w.stays_closed o));
@@ -53,18 +61,22 @@ module _ {d r : Desk} {more : List ℕ} (w : Writes d r more) where
     one_line = t.one_line;
     keeps = t.keeps ∙ sym (ap (λ x. take x.begun line) w.same);
     cut = λ o later h.
-        t.cut (w.stays_closed o) later (λ z. h (ap (λ x. x.reads) w.same ∙ z))
+        t.cut (w.stays_closed o) later (λ z. h (same-reads ∙ z))
         ∙ ap (λ v. lines ++ kept (lines_of (t.begun ++ (v ++ later)))) (sym (ap (λ x. left x piece) w.same));
+    counted = λ o l. omega (arith, same-reads, t.counted (w.stays_closed o) (omega (arith, same-reads, l)));
+    read_all = λ o z. t.read_all (w.stays_closed o) (sym same-reads ∙ z);
   }
 
-  pub all-written : {text : List ℕ} {lines : List (List ℕ)} → AllTaken d text lines → AllTaken r (text ++ more) lines
+  pub all-written : {from : Outside} {unread : Option (List ℕ)} {text : List ℕ} {lines : List (List ℕ)} → AllTaken from (outside unread held) d text lines
+      → AllTaken from (outside unread holds) r (text ++ more) lines
   all-written t = record {
     closed = still-closed t.closed;
     input = t.input;
     moved = λ o. w.moves o (t.moved (w.stays_closed o));
     number_is = ap (λ x. x.number) w.same ∙ t.number_is;
     all = λ o. t.all (w.stays_closed o);
-    ended = λ o. ap (λ x. x.reads) w.same ∙ t.ended (w.stays_closed o);
+    ended = λ o. same-reads ∙ t.ended (w.stays_closed o);
+    read_all = λ o. t.read_all (w.stays_closed o);
   }
 
   pub ready-written : {piece : List ℕ} → Ready d piece → Ready r piece
@@ -80,7 +92,7 @@ nat-cases (suc n) f g = g (omega arith)
 left-none : (d : Desk) (piece : List ℕ) → d.at ≡ d.end → left d piece ≡ []
 left-none d piece e = rw e (slice_empty d.end piece)
 
-module _ {d r : Desk} {piece piece' : List ℕ} (ready : Ready d piece) (used : d.end ≤ d.at) (s : Reads d r piece')
+module _ {had has : Option (List ℕ)} {d r : Desk} {piece piece' : List ℕ} (ready : Ready d piece) (used : d.end ≤ d.at) (s : Reads had has d r piece')
     (some : 0 < d.reads) (size : length piece' ≡ length piece) where
   used_up : d.at ≡ d.end
   used_up = omega (arith, ready.at_in)
@@ -89,24 +101,44 @@ module _ {d r : Desk} {piece piece' : List ℕ} (ready : Ready d piece) (used : 
   to-come : (later : List ℕ) → (r.reads ≡ 0 → later ≡ []) → d.reads ≡ 0 → take r.end piece' ++ later ≡ []
   to-come later h z = absurd (omega arith)
 
-  taken-read : {line text : List ℕ} {lines : List (List ℕ)} → Taken d piece line text lines → Taken r piece' line text lines
-  taken-read {line} {text} {lines} t = record {
-    closed = λ e. t.closed (sym (ap (λ x. x.writable) s.same) ∙ e);
+  same-writable : d.writable ≡ r.writable
+  same-writable = sym (ap (λ x. x.writable) s.same)
+
+  -- how much is read with it
+  long : (input : List ℕ) → length (input ++ take r.end piece') ≡ length input + r.end
+  long input = length-append input (take r.end piece') ∙ ap (λ n. length input + n) (length-take-le r.end piece' s.end_in)
+
+  -- a read that brings something is counted, and one that brings nothing is at the input's end
+  module _ (input : List ℕ) (counted : most_reads ≤ d.reads + length input) where
+    counted-read : 0 < r.reads → most_reads ≤ r.reads + length (input ++ take r.end piece')
+    counted-read l = nat-cases r.end (λ z. absurd (omega (arith, s.ends z))) (λ n. omega (arith, s.fewer n, long input))
+
+    all-read : r.reads ≡ 0 → InputFailed ⊎ (length (input ++ take r.end piece') < most_reads → IsAtEnd has)
+    all-read z =
+        nat-cases r.end (λ e. ⊎_elim inl (λ a. inr (λ l. a)) (s.at_end (omega (arith, size, ready.piece_length)) e))
+        (λ n. inr (λ l. absurd (omega (arith, s.fewer n, long input))))
+
+  taken-read : {from : Outside} {held : Option (List ℕ)} {line text : List ℕ} {lines : List (List ℕ)} → Taken from (outside had held) d piece line text lines
+      → Taken from (outside has held) r piece' line text lines
+  taken-read {from} {held} {line} {text} {lines} t = record {
+    closed = λ e. t.closed (same-writable ∙ e);
     input = t.input ++ take r.end piece';
-    moved = λ o. s.moves (t.moved (sym (ap (λ x. x.writable) s.same) ∙ o));
+    moved = λ o. s.moves (t.moved (same-writable ∙ o));
     number_is = ap (λ x. x.number) s.same ∙ t.number_is;
     begun = t.begun;
     one_line = t.one_line;
     keeps = t.keeps ∙ sym (ap (λ x. take x.begun line) s.same);
     cut = λ o later h.
         ap (λ u. kept (lines_of u)) (append_assoc t.input (take r.end piece') later)
-        ∙ t.cut (sym (ap (λ x. x.writable) s.same) ∙ o) (take r.end piece' ++ later) (to-come later h)
+        ∙ t.cut (same-writable ∙ o) (take r.end piece' ++ later) (to-come later h)
         ∙ ap (λ v. lines ++ kept (lines_of (t.begun ++ (v ++ (take r.end piece' ++ later))))) (left-none d piece used_up)
         ∙ ap (λ v. lines ++ kept (lines_of (t.begun ++ (v ++ later)))) (sym (ap (λ x. left x piece') s.same));
+    counted = λ o. counted-read t.input (t.counted (same-writable ∙ o) some);
+    read_all = λ o. all-read t.input (t.counted (same-writable ∙ o) some);
   }
 
   -- a read that brings nothing was the last
-  pub refill-read : Refills d r piece piece'
+  pub refill-read : Refills had has d r piece piece'
   refill-read =
       let a : r.at ≡ 0 = ap (λ x. x.at) s.same in
       let n : r.number ≡ d.number = ap (λ x. x.number) s.same in
@@ -132,9 +164,9 @@ module _ {d : Desk} {piece : List ℕ} (ready : Ready d piece) (still : d.writab
   abbrev stopped : Desk
   stopped = with_piece d.reads d.end d.end d
 
-  pub refill-still : Refills d stopped piece piece
+  pub refill-still : {had : Option (List ℕ)} → Refills had had d stopped piece piece
   refill-still = record {
-    taken = λ {line} {text} {lines} t. record {
+    taken = λ {from} {held} {line} {text} {lines} t. record {
       closed = t.closed;
       input = t.input;
       moved = t.moved;
@@ -146,6 +178,8 @@ module _ {d : Desk} {piece : List ℕ} (ready : Ready d piece) (still : d.writab
           t.cut o later h
           ∙ ap (λ v. lines ++ kept (lines_of (t.begun ++ (v ++ later))))
           (left-none d piece (omega (arith, (still o).0, ready.at_in)) ∙ sym (left-none stopped piece refl));
+      counted = t.counted;
+      read_all = t.read_all;
     };
     ready = record { piece_length = ready.piece_length; at_in = omega arith; end_in = ready.end_in; counts = omega (arith, ready.counts) };
     no_more = omega arith;
@@ -193,7 +227,7 @@ module _ {d : Desk} {c : Continued} {piece line line' : List ℕ} (ready : Ready
       let r : run 10 v ≡ length v = omega (arith, k.ends, many, k.ends_in, many-in, run-most 10 v) in
       let w : take (run 10 v) v ≡ v = ap (λ n. take n v) r ∙ take-length v in
       record {
-        taken = λ {text} {lines} t. record {
+        taken = λ {from} {to} {text} {lines} t. record {
           closed = t.closed;
           input = t.input;
           moved = t.moved;
@@ -206,6 +240,8 @@ module _ {d : Desk} {c : Continued} {piece line line' : List ℕ} (ready : Ready
               ∙ ap (λ u. lines ++ kept (lines_of u)) (sym (append_assoc t.begun v later))
               ∙ ap (λ u. lines ++ kept (lines_of ((t.begun ++ v) ++ (u ++ later)))) (sym (left-none going piece refl))
               ∙ ap (λ u. u ++ kept (lines_of ((t.begun ++ v) ++ (left going piece ++ later)))) (sym (append-nil lines));
+          counted = t.counted;
+          read_all = t.read_all;
         };
         ready = record { piece_length = ready.piece_length; at_in = omega arith; end_in = ready.end_in; counts = omega (arith, ready.counts) };
         less = omega arith;
@@ -225,7 +261,7 @@ module _ {d : Desk} {c : Continued} {piece line line' : List ℕ} (ready : Ready
       let n : d.at + (run 10 v + 1) ≡ c.end + 1 = omega (arith, k.ends) in
       let b : drop (run 10 v + 1) v ≡ left ended piece = drop-drop (run 10 v + 1) d.at (take d.end piece) ∙ ap (λ m. drop m (take d.end piece)) n in
       record {
-        taken = λ {text} {lines} t.
+        taken = λ {from} {to} {text} {lines} t.
             let f = fronts t.begun t.keeps in
             record {
               closed = t.closed;
@@ -242,6 +278,8 @@ module _ {d : Desk} {c : Continued} {piece line line' : List ℕ} (ready : Ready
                   ∙ ap (λ u. lines ++ (u ∷ kept (lines_of (drop (run 10 v + 1) v ++ later)))) (sym f)
                   ∙ ap (λ u. lines ++ (take c.begun line' ∷ kept (lines_of (u ++ later)))) b
                   ∙ sym (append_assoc lines (take c.begun line' ∷ []) (kept (lines_of (left ended piece ++ later))));
+              counted = t.counted;
+              read_all = t.read_all;
             };
         ready = record { piece_length = ready.piece_length; at_in = omega arith; end_in = ready.end_in; counts = omega (arith, ready.counts, k.ends) };
         less = omega (arith, k.ends);
@@ -253,9 +291,9 @@ module _ {d : Desk} {c : Continued} {piece line line' : List ℕ} (ready : Ready
 -- ---- the input's end
 
 -- what is begun is the rest of the input
-rest-begun : {d : Desk} {piece line text : List ℕ} {lines : List (List ℕ)} (t : Taken d piece line text lines) → d.at ≡ d.end
-    → d.writable ≡ true → kept (lines_of t.input) ≡ lines ++ kept (lines_of t.begun)
-rest-begun {d} {piece} {line} {text} {lines} t e o =
+rest-begun : {from to : Outside} {d : Desk} {piece line text : List ℕ} {lines : List (List ℕ)} (t : Taken from to d piece line text lines)
+    → d.at ≡ d.end → d.writable ≡ true → kept (lines_of t.input) ≡ lines ++ kept (lines_of t.begun)
+rest-begun {from} {to} {d} {piece} {line} {text} {lines} t e o =
     ap (λ u. kept (lines_of u)) (sym (append-nil t.input))
     ∙ t.cut o [] (λ z. refl)
     ∙ ap (λ v. lines ++ kept (lines_of (t.begun ++ (v ++ [])))) (left-none d piece e)
@@ -277,7 +315,7 @@ module _ (d : Desk) where
   -- a line that is begun is the last
   pub last-begun : 0 < d.begun → LastLine d (finished (d.number + 1) true d.begun d)
   last-begun l = record {
-    taken = λ {piece} {line} {text} {lines} t i e z.
+    taken = λ {from} {to} {piece} {line} {text} {lines} t i e z.
         let k = t.keeps in
         let some : 0 < length t.begun = keep_some t.begun (omega (arith, ap length k, length-take-le d.begun line i)) in
         record {
@@ -290,6 +328,7 @@ module _ (d : Desk) where
               ∙ ap (λ u. lines ++ kept u) (lines-last t.begun some (record { runs = t.one_line }))
               ∙ ap (λ u. lines ++ u) (kept-one t.begun [] ∙ ap (λ u. keep t.begun ∷ u) kept-none ∙ ap (λ u. u ∷ []) k);
           ended = z;
+          read_all = λ o. t.read_all o (z o);
         };
     len_in = omega arith;
   }
@@ -297,7 +336,7 @@ module _ (d : Desk) where
   -- where none is begun, there is no other
   pub last_none : d.begun ≡ 0 → LastLine d (finished d.number false 0 d)
   last_none f = record {
-    taken = λ {piece} {line} {text} {lines} t i e z.
+    taken = λ {from} {to} {piece} {line} {text} {lines} t i e z.
         let b : t.begun ≡ [] = keep-none t.begun (t.keeps ∙ rw f) in
         record {
           closed = t.closed;
@@ -310,6 +349,7 @@ module _ (d : Desk) where
               ∙ ap (λ u. lines ++ kept u) lines_none
               ∙ ap (λ u. lines ++ u) kept-none;
           ended = z;
+          read_all = λ o. t.read_all o (z o);
         };
     len_in = omega arith;
   }

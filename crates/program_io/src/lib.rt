@@ -5,12 +5,37 @@
 ghost use Rattle.std.specs.Prelude.{◌≡◌, suc, ◌+◌, ◌≤◌, ◌<◌, length, take};
 ghost use Rattle.text_words.specs.Words.{longest};
 ghost use Rattle.image.specs.Store.{room as largest};
+ghost use Rattle.program_io.specs.Outside.{ReadsSome};
 ghost use Rattle.program_io.specs.Lines.{Continues};
-ghost use Rattle.program_io.specs.Files.{TablesFile};
+ghost use Rattle.program_io.specs.Files.{octets_of, ReadsFile, TablesFile};
 ghost use Rattle.program_io.specs.Desk.{Opens, Writes, Reads, Ready, NextLine, Refills, LastLine, most_lines};
 
 use image::ROOM;
-use libc::{ENOENT, STDIN_FILENO, STDOUT_FILENO};
+use std::io::{ErrorKind, Read, Write};
+use std::rt::Files;
+use std::{fs, io};
+
+// ---- what failed
+
+// Room for what the system says of an error.
+const REASON_ROOM: usize = 320;
+
+// Says on standard error what failed, and why, in the system's words without the error's number.
+fn say(rt: &impl Eprint, what: &str, error: io::Error) {
+    let mut text = [0u8; REASON_ROOM];
+    let mut room = &mut text[..];
+    let _ = write!(room, "{error}");
+    let len = REASON_ROOM.saturating_sub(room.len());
+    match str::from_utf8(&text[..len]) {
+        Ok(words) => {
+            let reason = words.split(" (os error ").next().unwrap_or(words);
+            let _ = eprintln!(rt; "{what}: {reason}");
+        }
+        Err(_) => {
+            let _ = eprintln!(rt; "{what}: {error}");
+        }
+    }
+}
 
 // ---- the file
 
@@ -25,23 +50,27 @@ pub struct File {
 }
 
 // Reads once into the front of `room`: how many octets, none at the end. Where the read fails, that is said of `what`.
-fn read_some(fd: i32, room: &mut [u8], what: &[u8]) -> usize
-    ensures { result ≤ length room.new }
+fn read_some<R: Read>(rt: &impl Eprint, from: &mut R, room: &mut [u8], what: &str) -> usize
+    ensures within { result ≤ length room.new }
+    ensures reads { ReadsSome (R.remaining from.old) (R.remaining from.new) (length room.old) (take result room.new) }
 {
-    let got = libc::read(fd, room);
-    if got < 0 {
-        os::fail(what);
+    match from.read(room) {
+        Ok(n) => n,
+        Err(e) => {
+            say(rt, what, e);
+            0
+        }
     }
-    io::count(got, room)
 }
 
 // Reads an open file to its end, as far as there is room: how many octets it has.
-fn read_file(fd: i32, octets: &mut [u8]) -> usize
-    ensures { result ≤ length octets.new }
+fn read_file<F: Read>(rt: &impl Eprint, file: &mut F, octets: &mut [u8]) -> usize
+    ensures within { result ≤ length octets.new }
+    ensures reads { ReadsFile (F.remaining file.old) (length octets.old) (take result octets.new) }
 {
     let mut len = 0;
     while len < octets.len() {
-        let n = read_some(fd, &mut octets[len..], b"tables.bin");
+        let n = read_some(rt, file, &mut octets[len..], "tables.bin");
         if n == 0 {
             break;
         }
@@ -50,24 +79,34 @@ fn read_file(fd: i32, octets: &mut [u8]) -> usize
     len
 }
 
+// Opens `tables.bin`. A file that is there and does not open is said.
+pub fn open_tables<R: Files + Eprint>(rt: &R) -> Option<R::File> {
+    match fs::open(rt, "tables.bin") {
+        Ok(file) => Some(file),
+        Err(e) => {
+            if e.kind() != ErrorKind::NotFound {
+                say(rt, "tables.bin", e);
+            }
+            None
+        }
+    }
+}
+
 // The octets of `tables.bin`: of one longer than the largest image, as many as that has and one more. A missing file has none; one that is there and
 // cannot be read has none either, and that is said.
-pub fn load() -> File
-    ensures file { TablesFile (take result.len result.octets) }
+pub fn load<F: Read + Drop>(rt: &impl Eprint, file: Option<F>) -> File
+    ensures file { TablesFile (octets_of F.remaining file) (take result.len result.octets) }
     ensures within { result.len ≤ length result.octets }
     ensures size { length result.octets ≡ largest + 1 }
 {
     let mut octets = [0u8; FILE_ROOM];
-    let fd = os::open_read(b"tables.bin");
-    if fd < 0 {
-        if os::errno() != ENOENT {
-            os::fail(b"tables.bin");
+    match file {
+        None => File { octets, len: 0 },
+        Some(mut file) => {
+            let len = read_file(rt, &mut file, &mut octets);
+            File { octets, len }
         }
-        return File { octets, len: 0 };
     }
-    let len = read_file(fd, &mut octets);
-    libc::close(fd);
-    File { octets, len }
 }
 
 // ---- standard input and standard output
@@ -109,28 +148,28 @@ pub fn start() -> Desk
 }
 
 // Writes a text to standard output. Where it does not take the text, that is said, and nothing is written any more.
-pub fn write(d: Desk, text: &[u8]) -> Desk
-    ensures { Writes d result text.now }
+pub fn write<W: Write>(rt: &impl Eprint, d: Desk, output: &mut W, text: &[u8]) -> Desk
+    ensures { Writes (W.contents output.old) (W.contents output.new) d result text.now }
 {
     let mut r = d;
     if !d.writable {
         return r;
     }
-    if !io::write_all(STDOUT_FILENO, text) {
-        os::fail(b"standard output");
+    if let Err(e) = output.write_all(text) {
+        say(rt, "standard output", e);
         r.writable = false;
     }
     r
 }
 
 // Reads the next piece of standard input.
-fn read(d: Desk, piece: &mut [u8]) -> Desk
+fn read<R: Read>(rt: &impl Eprint, d: Desk, input: &mut R, piece: &mut [u8]) -> Desk
     requires { 0 < d.reads }
-    ensures { Reads d result piece.new }
+    ensures { Reads (R.remaining input.old) (R.remaining input.new) d result piece.new }
 {
     let mut r = d;
     r.at = 0;
-    r.end = read_some(STDIN_FILENO, piece, b"standard input");
+    r.end = read_some(rt, input, piece, "standard input");
     if r.end == 0 {
         r.reads = 0;
         return r;
@@ -140,16 +179,16 @@ fn read(d: Desk, piece: &mut [u8]) -> Desk
 }
 
 // Reads on where the piece is used up. Where there is nothing more to read, or nobody to write to, it stays used up.
-pub fn refill(d: Desk, piece: &mut [u8]) -> Desk
+pub fn refill<R: Read>(rt: &impl Eprint, d: Desk, input: &mut R, piece: &mut [u8]) -> Desk
     requires { Ready d piece.old }
-    ensures { Refills d result piece.old piece.new }
+    ensures { Refills (R.remaining input.old) (R.remaining input.new) d result piece.old piece.new }
 {
     if d.writable {
         if d.at < d.end {
             return d;
         }
         if 0 < d.reads {
-            return read(d, piece);
+            return read(rt, d, input, piece);
         }
     }
     let mut r = d;

@@ -1,6 +1,6 @@
 -- What reading a set leaves in the two lent buffers, be its words well-formed or not (`line_fields/specs/Buffers.antt`). Assumes nothing.
 use Rattle.std.specs.Prelude.{cond, List, [], ◌∷◌, ℕ, zero, suc, length}
-use Rattle.std.proofs.Math.Option.{Option·elim}
+use Rattle.std.proofs.Math.Option.{Option-elim}
 use Rattle.numbers.specs.Order.{same}
 use Rattle.line_fields.specs.declared.Kind.{Kind}
 use Rattle.line_fields.specs.declared.Kind.TheVariants.{Number, Name, Edit}
@@ -21,7 +21,7 @@ behind_into further (w ∷ ws) b = cond (same w separator) (further ws b) b
 unfoldable pub some_into : List ℕ → ℕ → List (List ℕ) → Buffers → Buffers
 some_into line zero ws b = b
 some_into line (suc n) ws b =
-    Option·elim (kind_said Edit ws) (field_into Edit line ws b) (λ f. behind_into (some_into line n) f.rest (field_into Edit line ws b))
+    Option-elim (kind_said Edit ws) (field_into Edit line ws b) (λ f. behind_into (some_into line n) f.rest (field_into Edit line ws b))
 
 unfoldable pub edits_into : List ℕ → List (List ℕ) → Buffers → Buffers
 edits_into line [] b = b

@@ -1,6 +1,6 @@
 -- Fields said in the words of a line, one after the other, in the form of the image; and what the code reads of them. Assumes nothing.
 use Rattle.std.specs.Prelude.{◌≡◌, List, [], ◌∷◌, ◌++◌, ℕ, suc, ◌+◌, ◌*◌, ◌≤◌, length}
-use Rattle.std.proofs.Math.Option.{Option, none, some, bind, Option·elim}
+use Rattle.std.proofs.Math.Option.{Option, none, some, bind, Option-elim}
 use Rattle.rows.specs.Fields.{Field}
 use Rattle.text_words.specs.Words.{longest, words_from}
 use Rattle.text_fields.specs.FieldWords.{field_said}
@@ -29,7 +29,7 @@ fields_said (k ∷ ks) (w ∷ ws) = bind (field_said k w) (λ b. after b (fields
 unfoldable pub fields_front : List Field → List (List ℕ) → List ℕ
 fields_front [] ws = []
 fields_front (k ∷ ks) [] = []
-fields_front (k ∷ ks) (w ∷ ws) = Option·elim (field_said k w) [] (λ b. b ++ fields_front ks ws)
+fields_front (k ∷ ks) (w ∷ ws) = Option-elim (field_said k w) [] (λ b. b ++ fields_front ks ws)
 
 -- ---- how the code reads them
 

@@ -1,6 +1,6 @@
 -- A table's row or key said in the words of a line: the table's word, and the fields in order; and what the code reads of it. Assumes nothing.
 use Rattle.std.specs.Prelude.{◌≡◌, List, [], ◌∷◌, ℕ, suc, ◌+◌, ◌*◌, ◌≤◌, length, take}
-use Rattle.std.proofs.Math.Option.{Option, none, some, bind, Option·elim}
+use Rattle.std.proofs.Math.Option.{Option, none, some, bind, Option-elim}
 use Rattle.edit_rules.specs.declared.Operation.{Operation}
 use Rattle.rows.specs.declared.Shape.{Shape}
 use Rattle.rows.specs.declared.Table.{Table}
@@ -30,7 +30,7 @@ entry_said o (w ∷ ws) = bind (table_named w) (λ t. entry_of t (fields_said (f
 -- the bytes of its fields in front of the first word that is missing or malformed; none, where no table is named
 unfoldable pub entry_front : Operation → List (List ℕ) → List ℕ
 entry_front o [] = []
-entry_front o (w ∷ ws) = Option·elim (table_named w) [] (λ t. fields_front (fields_of (shape_of o) t) ws)
+entry_front o (w ∷ ws) = Option-elim (table_named w) [] (λ t. fields_front (fields_of (shape_of o) t) ws)
 
 -- ---- how the code reads it
 

@@ -1,9 +1,8 @@
 -- What a word names among things that have words, by its place: the thing at that place, or none. Assumes nothing.
 use mathlib.Core.Path.{◌≡◌, refl, sym, ap, ◌∙◌}
-use mathlib.Core.Bool.{true, false}
 use mathlib.Core.List.{List, [], ◌∷◌}
-use mathlib.Core.Option.{Option, none, some}
-use Prim.Native.Nat.{ℕ, suc, ◌≤◌}
+use mathlib.Core.Option.{none}
+use Prim.Native.Nat.{ℕ, ◌≤◌}
 use lib.ListN.{length, drop, drop_of_length-le}
 use Rattle.numbers.specs.Lists.{first, find}
 use Rattle.numbers.specs.Order.{same}

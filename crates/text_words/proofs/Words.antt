@@ -1,18 +1,17 @@
 -- Laws of words. `run` is how far the first mark stands, so that the octets before it are the first part and those behind it make the others.
 -- A number that digits say only grows with each digit, so that one that is too large stays so. What is read part by part is what was read, and
 -- what the rest says behind it. Assumes nothing.
-use mathlib.Core.Path.{◌≡◌, refl, sym, ap, ◌∙◌}
+use mathlib.Core.Path.{◌≡◌, refl, sym, ap, subst, ◌∙◌}
 use mathlib.Core.Bool.{true, false}
 use mathlib.Core.List.{List, [], ◌∷◌, ◌++◌, append-nil}
 use mathlib.Core.Option.{Option, none, some, map}
-use Prim.Native.Nat.{ℕ, suc, ◌+◌, ◌-◌, ◌*◌, ◌≤◌, ◌<◌}
+use Prim.Native.Nat.{ℕ, zero, suc, ◌+◌, ◌-◌, ◌*◌, ◌≤◌, ◌<◌}
 use native.Mathlib.Omega.{arith}
 use native.Mathlib.Numerals.{add-one}
 use lib.Dec.{eqb, ltb}
 use lib.ListN.{length, take, drop, set, get_or, length-drop, length-append, drop_of_length-le}
 use lib.Seq.{drop-cons, drop-drop, take-length, append_snoc}
 use borrow.Author.Tests.{lt-ltb, le-ltb, ltb-true, ltb-false}
-use Rattle.bytes.specs.Bytes.{slice, index_after, index_of}
 use Rattle.numbers.specs.Laid.{laid}
 use Rattle.numbers.specs.Order.{same}
 use Rattle.numbers.proofs.Laid.{laid_nil, length-laid, laid-laid, laid-set}
@@ -23,7 +22,7 @@ use Rattle.rows.proofs.Sound.{within-most}
 use Rattle.rows.proofs.Steps.{within_low, within-high, within-yes}
 use Rattle.text_words.specs.declared.Number.{Number}
 use Rattle.text_words.specs.declared.Number.TheVariants.{Of, Bad}
-use Rattle.text_words.specs.Words.{between, longer, split, run, digits_from, below32, decimal, number_of, also, is_said, dash, hex_digit, hex_pair, hex_pairs}
+use Rattle.text_words.specs.Words.{between, longer, split, run, Ends, digits_from, below32, decimal, number_of, also, is_said, dash, hex_digit, hex_pair, hex_pairs}
 use Rattle.text_words.specs.Words.{hex_octets, decimals, dotted, Filling, Unfilled}
 
 pub never : {P A : Type 0} {x : A} → none ≡ some x → P
@@ -37,15 +36,41 @@ run-most mark [] = omega arith
 run-most mark (x ∷ xs) =
     by (eqb x mark) (λ e. rw e (omega arith)) (λ e. rw e (let h = run-most mark xs in omega arith))
 
--- the library's index of the mark
-run_index : (mark : ℕ) (v : List ℕ) → index_of mark v ≡ run mark v
-unfolding run index_of index_after
-run_index mark [] = refl
-run_index mark (x ∷ xs) = by (eqb x mark) (λ e. rw e) (λ e. rw e (ap suc (run_index mark xs)))
+-- the library's index of the mark, where it finds one, and where it finds none
+pub run-first : (mark : ℕ) (v : List ℕ) (r : ℕ) → r < length v → ((k : ℕ) → k < r → eqb (get_or v k 0) mark ≡ true → ⊥) → eqb (get_or v r 0) mark ≡ true
+    → run mark v ≡ r
+unfolding run
+run-first mark [] r h other here = absurd (omega arith)
+run-first mark (x ∷ xs) zero h other here = rw here
+run-first mark (x ∷ xs) (suc r) h other here =
+    by (eqb x mark) (λ e. absurd (other 0 (omega arith) e))
+    (λ e. rw e (ap suc (run-first mark xs r (omega arith) (λ k l. other (suc k) (omega arith)) here)))
 
-pub run-found : (mark : ℕ) (v : List ℕ) (at : ℕ) → index_of mark (slice at (length v) v) ≡ run mark (drop at v)
-unfolding slice
-run-found mark v at = rw (take-length v) (run_index mark (drop at v))
+pub run-nowhere : (mark : ℕ) (v : List ℕ) → ((k : ℕ) → k < length v → eqb (get_or v k 0) mark ≡ true → ⊥) → run mark v ≡ length v
+unfolding run
+run-nowhere mark [] other = refl
+run-nowhere mark (x ∷ xs) other =
+    by (eqb x mark) (λ e. absurd (other 0 (omega arith) e)) (λ e. rw e (ap suc (run-nowhere mark xs (λ k l. other (suc k) (omega arith)))))
+
+-- in the octets from `at` on
+module _ (mark : ℕ) (s : List ℕ) (at : ℕ) (h : at ≤ length s) where
+  rest-all : take (length s - at) (drop at s) ≡ drop at s
+  rest-all = let e : length s - at ≡ length (drop at s) = omega (arith, length-drop at s) in rw e (take-length (drop at s))
+
+  pub ends-first : (r : ℕ) → let v = take (length s - at) (drop at s) in r < length v → ((k : ℕ) → k < r → eqb (get_or v k 0) mark ≡ true → ⊥)
+      → eqb (get_or v r 0) mark ≡ true → Ends mark s at (at + r)
+  ends-first r l other here =
+      let v = take (length s - at) (drop at s) in
+      let e : run mark (drop at s) ≡ r = subst (λ u. run mark u ≡ r) rest-all (run-first mark v r l other here) in
+      let k : r < length (drop at s) = subst (λ u. r < length u) rest-all l in
+      record { ends = ap (λ m. at + m) (sym e); inside = omega (arith, k, length-drop at s) }
+
+  pub ends-nowhere : let v = take (length s - at) (drop at s) in ((k : ℕ) → k < length v → eqb (get_or v k 0) mark ≡ true → ⊥) → Ends mark s at (length s)
+  ends-nowhere other =
+      let v = take (length s - at) (drop at s) in
+      let e : run mark v ≡ length v = run-nowhere mark v other in
+      let q : run mark (drop at s) ≡ length (drop at s) = subst (λ u. run mark u ≡ length u) rest-all e in
+      record { ends = omega (arith, q, length-drop at s); inside = omega arith }
 
 -- ---- parts
 

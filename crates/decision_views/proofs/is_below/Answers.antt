@@ -1,11 +1,13 @@
-use mathlib.Core.Path.{refl, sym, ◌∙◌}
-use mathlib.Core.Logic.{⊎_elim}
-use Prim.Native.Nat.{◌-◌}
+use mathlib.Core.Path.{◌≡◌, refl, sym, ◌∙◌}
+use Prim.Native.Nat.{◌+◌}
+use lib.ListN.{drop}
 use native.Mathlib.Omega.{arith}
-use borrow.Author.Tests.{not-false}
+use Rattle.decision_steps.specs.Decision.{agrees}
+use Rattle.decision_steps.specs.Bytes.{identifier}
 use Rattle.decision_steps.proofs.Identifiers.{length-identifier}
 use Rattle.decision_views.proofs.Agreement.{agrees-short, agrees-end, agrees-same, agrees_masked, agrees-differ, agrees-skip, agrees-part}
 use Rattle.decision_views.proofs.is_below.Goals as goal
+use Rattle.decision_views.proofs.is_below.Goals.{then-not-same_four-2+else-mask_bit-2, else-not-same_four-2}
 
 pub returns-then-variable-n : goal.returns-then-variable-n
 returns-then-variable-n c = sym (agrees-short _ 0 _ _ (omega (arith, length-identifier c.args.subtree.now, length-identifier c.args.variable.now)))
@@ -34,13 +36,16 @@ returns-then-mask_bit-2 c =
 
 pub loop-k-preserved : goal.loop-k-preserved
 loop-k-preserved c =
-    let l = c.loop-k in (
-      omega arith,
-      l.invariant.1 ∙ ⊎_elim
-          (λ w. agrees_masked _ _ _ l.i l.k (omega arith) (omega arith) (sym w.1.ensures ∙ w.2.left))
-          (λ w. agrees-same _ _ _ l.i l.k (omega arith) (omega arith) (sym c.same_four-in-loop-k.ensures ∙ not-false _ w.left))
-          c.if-not-same_four-2.branch,
-    )
+    let l = c.loop-k in
+    let turn : agrees c.args.mask.now l.i (identifier (drop l.k c.args.subtree.now)) (identifier (drop l.k c.args.variable.now))
+    ≡ agrees c.args.mask.now (l.i + 1) (identifier (drop (l.k + 4) c.args.subtree.now)) (identifier (drop (l.k + 4) c.args.variable.now)) =
+    elim c.if-not-same_four-2.branch [
+      | then-not-same_four-2+else-mask_bit-2 w ↦
+          agrees_masked _ _ _ l.i l.k (omega arith) (omega arith) (sym w.mask_bit-then-not-same_four-2.ensures ∙ w.if-mask_bit-2.false)
+      | else-not-same_four-2 w ↦
+          agrees-same _ _ _ l.i l.k (omega arith) (omega arith) (sym c.same_four-in-loop-k.ensures ∙ w.if-not-same_four-2.false)
+    ] in
+    (omega arith, l.invariant.1 ∙ turn)
 
 pub returns : goal.returns
 returns c =
