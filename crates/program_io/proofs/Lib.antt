@@ -1,3 +1,4 @@
 pub mod Outside
 pub mod Lines
 pub mod TakenLines
+pub mod Moved

@@ -7,8 +7,8 @@ use Prim.Native.Nat.{ℕ, zero, suc, ◌+◌, ◌-◌, ◌≤◌, ◌<◌, min}
 use native.Mathlib.Omega.{arith}
 use native.Mathlib.Numerals.{add-one}
 use lib.Dec.{eqb, leb}
-use lib.ListN.{length, take, drop, get_or, length-append, length-take, take-append-drop}
-use lib.Seq.{drop-cons, length-take-le, take_all, take-length, take-append-add, take-nil, take-take, paste}
+use lib.ListN.{length, take, drop, get_or, length-take, take-append-drop}
+use lib.Seq.{drop-cons, length-take-le, take_all, take-append-add, take-nil, take-take, paste}
 use borrow.Author.Tests.{eqb-true, leb-true, leb-false}
 use Rattle.numbers.specs.Laid.{laid}
 use Rattle.numbers.proofs.Bools.{split as by}

@@ -1,5 +1,5 @@
 -- What is known of a reader that gave octets: they are the front of what it had, and all of that where it is at its end. Assumes nothing.
-use Rattle.std.proofs.Common.{◌≡◌, ℕ, ◌+◌, ◌≤◌, ◌<◌, List, [], ◌∷◌, ◌++◌, None, Some, IfSome, refl, sym, ap, ◌∙◌, append-nil, length, take, drop, arith}
+use Rattle.std.proofs.Common.{◌≡◌, ℕ, ◌+◌, ◌≤◌, List, ◌++◌, None, Some, IfSome, sym, ap, ◌∙◌, append-nil, length, take}
 use lib.Seq.{take-append_seam, take-append-add, take-append-le, take_all, length-take-le}
 use borrow.Rule.Slice.PartMut.{put_mid, post_of}
 use Rattle.std.specs.Prelude.{Option}

@@ -1,15 +1,14 @@
 -- What the calls of a desk do to the lines taken. A read piece is what is to come and then what is left; a line that goes on is begun with what the piece
 -- had of it, and one that a newline ends is taken; at the input's end what is begun is the last line. Assumes nothing.
 use mathlib.Core.Path.{◌≡◌, refl, sym, ap, ◌∙◌}
-use mathlib.Core.Bool.{Bool, true, false, cond}
+use mathlib.Core.Bool.{Bool, true, false}
 use mathlib.Core.Logic.{◌⊎◌, ⊎_elim, inl, inr}
 use Rattle.std.specs.Prelude.{Option}
 use mathlib.Core.List.{List, [], ◌∷◌, ◌++◌, append_assoc, append-nil}
-use Prim.Native.Nat.{ℕ, zero, suc, ◌+◌, ◌-◌, ◌*◌, ◌≤◌, ◌<◌}
+use Prim.Native.Nat.{ℕ, zero, suc, ◌+◌, ◌-◌, ◌≤◌, ◌<◌}
 use native.Mathlib.Omega.{arith}
-use lib.ListN.{length, take, drop, length-append, length-take, length-drop, drop_of_length-le}
-use lib.Seq.{drop-drop, take_all, take-length, length-take-le, slice_empty, length-slice}
-use Rattle.numbers.specs.Laid.{laid}
+use lib.ListN.{length, take, drop, length-append, length-take}
+use lib.Seq.{drop-drop, take-length, length-take-le, slice_empty, length-slice}
 use Rattle.numbers.proofs.Bools.{split as by}
 use Rattle.numbers.proofs.Laid.{length-laid}
 use Rattle.text_words.specs.Words.{run, longest}
@@ -19,26 +18,8 @@ use Rattle.program_io.specs.declared.Desk.{Desk}
 use Rattle.program_io.specs.Lines.{lines_of, keep, kept, goes_on, Continues}
 use Rattle.std.specs.Io.KnownBytes.{IsAtEnd}
 use Rattle.program_io.specs.Outside.{Outside, outside, InputFailed}
-use Rattle.program_io.specs.Desk.{
-  OutputFailed,
-  piece_room,
-  most_reads,
-  Ready,
-  left,
-  pending,
-  new_line,
-  Taken,
-  AllTaken,
-  Opens,
-  Writes,
-  with_writable,
-  Reads,
-  with_piece,
-  Refills,
-  NextLine,
-  LastLine,
-}
-use Rattle.program_io.proofs.Lines.{OneLine, one-line-nil, one-line-append, lines_cut, lines_none, lines-last, kept-one, kept-none, keep-on}
+use Rattle.program_io.specs.Desk.{OutputFailed, most_reads, Ready, left, Taken, AllTaken, Writes, Reads, with_piece, Refills, NextLine, LastLine}
+use Rattle.program_io.proofs.Lines.{one-line-nil, one-line-append, lines_cut, lines_none, lines-last, kept-one, kept-none, keep-on}
 
 -- ---- a text is written
 

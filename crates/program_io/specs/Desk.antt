@@ -10,9 +10,10 @@ use Rattle.program_io.specs.declared.Desk.{Desk}
 
 -- ---- what was read and written
 
--- Since the outside was as `from` says, `input` was read of standard input and `text` was handed to standard output, piece by piece, and it is as `to` says:
--- a piece read is taken from the front of what the input has left, and a text written goes behind what the output holds, where these are known. Where they
--- are not, a name stands for it: only the proofs of `start`, `read` and `write` make one.
+-- Since the outside was as `from` says, `input` was read of standard input and `text` was handed to standard output, piece by piece, and now it is as `to`
+-- says: a piece that was read stood at the front of what the input had left, and a text that was written stands behind what the output held, where these are
+-- known. Where they are not, the contracts of the system's calls say how many octets they move and not which, so that a name stands for it: only the proofs of
+-- `start`, `read` and `write` make one.
 pub data Moved (from : Outside) : Outside → List ℕ → List ℕ → Type 0 where
   nothing_moved : Moved from from [] []
   read_on : {input text : List ℕ} {had has held : Option (List ℕ)} (piece : List ℕ) → Consumes had has piece → Moved from (outside had held) input text

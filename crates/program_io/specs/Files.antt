@@ -1,22 +1,21 @@
--- What is known of octets that came from a file. The contracts of the system's calls say how many octets they move and not which, so that a name stands
--- for it: only `load` makes one. Assumes nothing.
-use Rattle.std.specs.Prelude.{◌≡◌, ◌⊎◌, List, [], ℕ, ◌+◌, length, take, Option, Some, None, IfSome}
+-- What is known of octets that came from a file. Where a contract names what the file has, they are that; of a file of the system it does not say which octets
+-- it has, so that a name stands for it: only `load` makes one. Assumes nothing.
+use Rattle.std.specs.Prelude.{◌≡◌, ◌⊎◌, List, [], ℕ, ◌+◌, take, Option, Some, None, IfSome}
 use Rattle.std.specs.Io.{StartsWith}
 use Rattle.image.specs.Store.{room as largest}
 use Rattle.program_io.specs.Outside.{InputFailed}
 
--- the octets of a file, where they are known: one that is not there has none, and one that does not open has none that are read
+-- the octets of a file, where they are known: where there is none, or it did not open, there are none
 abbrev pub octets_of : {F : Type 0} → (F → Option (List ℕ)) → Option F → Option (List ℕ)
 octets_of remaining None = Some []
 octets_of remaining (Some file) = remaining file
 
--- These octets are those of `tables.bin`, as far as there is room for them. Where `known` says what the file has, they are the front of that, and all for
--- which there is room unless a read failed.
-pub data TablesFile (known : Option (List ℕ)) : List ℕ → Type 0 where
-  read_from_file : (octets : List ℕ) → IfSome known (λ xs. StartsWith xs octets)
-      → InputFailed ⊎ IfSome known (λ xs. octets ≡ take (largest + 1) xs) → TablesFile known octets
+-- `octets` were read of an open file, for which there was so much room: of what it is known to have they are the front, and all, as far as there was room,
+-- unless a read failed
+pub record ReadsFile (known : Option (List ℕ)) (room : ℕ) (octets : List ℕ) : Type 0 where
+  pub front : IfSome known (λ file. StartsWith file octets)
+  pub whole : InputFailed ⊎ IfSome known (λ file. octets ≡ take room file)
 
--- an open file that had `had` left is read to its end, as far as there is room, or as far as a read of it did not fail
-pub record ReadsFile (had : Option (List ℕ)) (room : ℕ) (octets : List ℕ) : Type 0 where
-  pub front : IfSome had (λ xs. StartsWith xs octets)
-  pub whole : InputFailed ⊎ IfSome had (λ xs. octets ≡ take room xs)
+-- these octets are those of `tables.bin`, as far as there is room for them
+pub data TablesFile (known : Option (List ℕ)) : List ℕ → Type 0 where
+  read_from_file : (octets : List ℕ) → ReadsFile known (largest + 1) octets → TablesFile known octets

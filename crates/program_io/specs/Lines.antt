@@ -1,6 +1,6 @@
 -- The lines of an input, and a line that comes in pieces: of one that is too long no more is kept than there is room for. Octets are ASCII: 10 newline.
 -- Assumes nothing.
-use Rattle.std.specs.Prelude.{◌≡◌, List, [], ◌∷◌, ◌++◌, ℕ, suc, ◌+◌, ◌-◌, ◌≤◌, length, take, drop}
+use Rattle.std.specs.Prelude.{◌≡◌, List, [], ◌∷◌, ℕ, suc, ◌+◌, ◌-◌, ◌≤◌, length, take, drop}
 use Rattle.numbers.specs.Laid.{laid}
 use Rattle.text_words.specs.Words.{split, run, longest}
 use Rattle.program_io.specs.declared.Continued.{Continued}

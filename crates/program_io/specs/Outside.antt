@@ -1,9 +1,9 @@
 -- What the programs read and write, as far as it is known. A contract names the octets that a reader has left and those that a writer holds: at readers and
 -- writers over memory they are known, and at a file, a pipe or a terminal they are not. Assumes nothing.
-use Rattle.std.specs.Prelude.{◌≡◌, ◌⊎◌, List, [], ℕ, ◌<◌, length, Option}
+use Rattle.std.specs.Prelude.{◌≡◌, ◌⊎◌, List, [], ℕ, ◌<◌, Option}
 use Rattle.std.specs.Io.KnownBytes.{Consumes, IsAtEnd}
 
--- the octets that standard input has left, and those that standard output holds, where they are known
+-- the octets that standard input has left and those that standard output holds, where they are known
 pub record Outside : Type 0 where
   pub unread : Option (List ℕ)
   pub held : Option (List ℕ)

@@ -26,15 +26,9 @@ fn say(rt: &impl Eprint, what: &str, error: io::Error) {
     let mut room = &mut text[..];
     let _ = write!(room, "{error}");
     let len = REASON_ROOM.saturating_sub(room.len());
-    match str::from_utf8(&text[..len]) {
-        Ok(words) => {
-            let reason = words.split(" (os error ").next().unwrap_or(words);
-            let _ = eprintln!(rt; "{what}: {reason}");
-        }
-        Err(_) => {
-            let _ = eprintln!(rt; "{what}: {error}");
-        }
-    }
+    let words = str::from_utf8(&text[..len]).unwrap_or("");
+    let reason = words.split(" (os error ").next().unwrap_or(words);
+    let _ = eprintln!(rt; "{what}: {reason}");
 }
 
 // ---- the file
@@ -49,7 +43,7 @@ pub struct File {
     pub len: usize,
 }
 
-// Reads once into the front of `room`: how many octets, none at the end. Where the read fails, that is said of `what`.
+// Reads once into the front of `room`: how many octets, none at the end. Where the read fails, there are none, and that is said of `what`.
 fn read_some<R: Read>(rt: &impl Eprint, from: &mut R, room: &mut [u8], what: &str) -> usize
     ensures within { result ≤ length room.new }
     ensures reads { ReadsSome (R.remaining from.old) (R.remaining from.new) (length room.old) (take result room.new) }

@@ -6,7 +6,6 @@ use Prim.Native.Nat.{ℕ, ◌+◌, ◌-◌, ◌*◌, ◌≤◌}
 use native.Mathlib.Omega.{arith}
 use lib.ListN.{length, take, drop, get_or, length-drop}
 use Rattle.numbers.specs.BigEndian.{octet, quad}
-use Rattle.rows.specs.declared.Form.{Form}
 use Rattle.rows.specs.declared.Form.TheVariants.{Name, Subtree, Large, Small}
 use Rattle.rows.specs.Fields.{sequence, integer, fault, value}
 use Rattle.rows.proofs.Places.{sequence-at, integer-at, octets-at}

@@ -3,6 +3,8 @@
 
 ghost use Rattle.std.specs.Prelude.{◌≡◌, ◌+◌, ◌≤◌, length};
 ghost use Rattle.image_judge.specs.Faults.{SoundLayout, tables_at};
+ghost use Rattle.program_io.specs.Outside.{outside};
+ghost use Rattle.program_io.specs.Files.{octets_of};
 ghost use Rattle.program_io.specs.Desk.{piece_room};
 ghost use Rattle.request_lines.specs.Report.{most_told};
 ghost use Rattle.tryreq.specs.Runs.{Answers, Due, Reports, Runs};
@@ -11,6 +13,7 @@ use image_judge::Surveyed;
 use image_layout::Layout;
 use program_io::{Desk, PIECE_ROOM};
 use request_lines::MOST_TOLD;
+use std::io::{Read, Write};
 use text_words::LONGEST_LINE;
 
 // Tells the answer to the line that was found, if one was, behind what is told already: how much is told then.
@@ -44,45 +47,59 @@ fn due(d: Desk, used: usize) -> usize
 }
 
 // Answers the lines of standard input.
-fn serve(image: &[u8], l: Layout) -> Desk
+fn serve<R: Read, W: Write>(
+    rt: &impl Eprint,
+    image: &[u8],
+    l: Layout,
+    input: &mut R,
+    output: &mut W,
+) -> Desk
     requires { SoundLayout image.now l }
-    ensures { Reports (tables_at image.now l) result }
+    ensures { Reports (tables_at image.now l) (outside (R.remaining input.old) (W.contents output.old))
+        (outside (R.remaining input.new) (W.contents output.new)) result }
 {
     let mut piece = [0u8; PIECE_ROOM];
     let mut line = [0u8; LONGEST_LINE + 1];
     let mut out = [0u8; PIECE_ROOM];
     let mut used = 0;
-    let mut d = program_io::refill(program_io::start(), &mut piece);
+    let mut d = program_io::refill(rt, program_io::start(), input, &mut piece);
     while d.at < d.end {
         d = program_io::next_line(d, &piece, &mut line);
         used = answer(image, l, d, &line, &mut out, used);
         let n = due(d, used);
-        d = program_io::write(d, &out[0..n]);
+        d = program_io::write(rt, d, output, &out[0..n]);
         used -= n;
-        d = program_io::refill(d, &mut piece);
+        d = program_io::refill(rt, d, input, &mut piece);
     }
     d = program_io::last_line(d);
     used = answer(image, l, d, &line, &mut out, used);
-    program_io::write(d, &out[0..used])
+    program_io::write(rt, d, output, &out[0..used])
 }
 
 // Reads the tables, and answers the lines, or says what is wrong with the tables.
-fn run() -> Desk
-    ensures { Runs result }
+fn run<F: Read + Drop, R: Read, W: Write>(
+    rt: &impl Eprint,
+    tables: Option<F>,
+    input: &mut R,
+    output: &mut W,
+) -> Desk
+    ensures { Runs (octets_of F.remaining tables) (outside (R.remaining input.old) (W.contents output.old))
+        (outside (R.remaining input.new) (W.contents output.new)) result }
 {
-    let file = program_io::load();
+    let file = program_io::load(rt, tables);
     let octets = file.octets;
     let n = file.len;
     match image::survey_image(&octets[0..n]) {
-        Surveyed::Laid(l) => serve(&octets[0..n], l),
+        Surveyed::Laid(l) => serve(rt, &octets[0..n], l, input, output),
         Surveyed::Bad(f) => {
             let mut out = [0u8; MOST_TOLD];
             let end = request_lines::tell_refusal(&mut out, f);
-            program_io::write(program_io::start(), &out[0..end])
+            program_io::write(rt, program_io::start(), output, &out[0..end])
         }
     }
 }
 
-fn main() {
-    run();
+fn main(rt: HostRuntime) {
+    let tables = program_io::open_tables(&rt);
+    run(&rt, tables, &mut rt.stdin(), &mut rt.stdout());
 }

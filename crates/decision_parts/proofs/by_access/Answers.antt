@@ -17,14 +17,14 @@ use Rattle.decision_parts.proofs.by_access.Goals as goal
 
 pub by_name-requires : goal.by_name-requires
 by_name-requires c =
-    let inside : c.args.at + c.after-m.result ≤ c.args.end = let a = c.args in let p : Lies a.w.now a.at a.end = c.requires.place in omega ( arith, p.starts, c.after-m.ensures.inside, length-take-le (a.end - a.at) (drop a.at a.w.now) (omega (arith, p.starts, p.ends, length-drop a.at a.w.now)), ) in
+    let inside : c.args.at + c.after-m.result ≤ c.args.end = let a = c.args in let p : Lies a.w.now a.at a.end = c.requires.place in omega (arith, p.starts, c.after-m.ensures.inside, length-take-le (a.end - a.at) (drop a.at a.w.now) (omega (arith, p.starts, p.ends, length-drop a.at a.w.now))) in
     let p : Lies c.args.w.now c.args.at c.args.end = c.requires.place in
     record { name = record { starts = omega (arith, c.after-m.ensures.is); ends = omega (arith, inside, p.ends) }; rows = c.requires.rows }
 
 pub returns : goal.returns
 returns c =
     let row : List ℕ = let a = c.args in part a.w.now a.at a.end in
-    let inside : c.args.at + c.after-m.result ≤ c.args.end = let a = c.args in let p : Lies a.w.now a.at a.end = c.requires.place in omega ( arith, p.starts, c.after-m.ensures.inside, length-take-le (a.end - a.at) (drop a.at a.w.now) (omega (arith, p.starts, p.ends, length-drop a.at a.w.now)), ) in
+    let inside : c.args.at + c.after-m.result ≤ c.args.end = let a = c.args in let p : Lies a.w.now a.at a.end = c.requires.place in omega (arith, p.starts, c.after-m.ensures.inside, length-take-le (a.end - a.at) (drop a.at a.w.now) (omega (arith, p.starts, p.ends, length-drop a.at a.w.now))) in
     let named : let a = c.args in part a.w.now (a.at + c.view_at-n.result + 1) (a.at + c.after-m.result) ≡ view_for a.view_type (access_of (row)) = let a = c.args in let v = c.view_at-n in let e : a.at + v.result + 1 ≡ a.at + (v.result + 1) = omega arith in ap (λ n. part a.w.now n (a.at + c.after-m.result)) e ∙ sym (part-part a.w.now a.at a.end (v.result + 1) c.after-m.result (omega (arith, c.after-m.ensures.is)) inside) ∙ name-part row v.result c.after-m.result c.after-m.ensures.is ∙ v.ensures.is in
     let a = c.args in
     says-as c.by_name.ensures (ap (λ n. over_rows n (map view_of (rows_in a.w.now a.views))) named)

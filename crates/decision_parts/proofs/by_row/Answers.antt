@@ -13,7 +13,7 @@ use Rattle.decision_steps.specs.Decision.{or_refused, by_type}
 use Rattle.decision_steps.specs.Bytes.{Whole}
 use Rattle.decision_find.specs.declared.Found.{Found}
 use Rattle.decision_find.specs.Found.{bytes_at, FoundIn, Chosen}
-use Rattle.decision_find.proofs.Chosen.{RowAt, row-at, no_row}
+use Rattle.decision_find.proofs.Chosen.{row-at, no_row}
 use Rattle.decision_parts.proofs.by_row.Goals as goal
 
 -- the row that was found, if one was, and what the step answers of it

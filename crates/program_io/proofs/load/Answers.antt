@@ -5,9 +5,7 @@ use Rattle.program_io.specs.Files.{read_from_file}
 use Rattle.program_io.proofs.load.Goals as goal
 
 pub returns-in-None-clause-file : goal.returns-in-None-clause-file
-returns-in-None-clause-file g c = rw c.in-None.is (read_from_file _ refl (inr refl))
+returns-in-None-clause-file g c = rw c.in-None.is (read_from_file _ (record { front = refl; whole = inr refl }))
 
 pub returns-in-Some-clause-file : goal.returns-in-Some-clause-file
-returns-in-Some-clause-file g c =
-    let r = c.read_file-len.ensures.reads in
-    rw c.in-Some.is (read_from_file _ r.front r.whole)
+returns-in-Some-clause-file g c = rw c.in-Some.is (read_from_file _ c.read_file-len.ensures.reads)

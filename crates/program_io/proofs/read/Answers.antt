@@ -1,5 +1,5 @@
 -- `program_io::read` meets its contract: the front of the piece is what was read, and where nothing was read the input has ended. Assumes nothing.
-use Rattle.std.proofs.Common.{◌≡◌, ◌<◌, ◌+◌, ◌-◌, take, refl, sym, ap, ◌∙◌, arith}
+use Rattle.std.proofs.Common.{take, refl, ap, arith}
 use Rattle.program_io.specs.Desk.{read_on}
 use Rattle.program_io.proofs.read.Goals as goal
 

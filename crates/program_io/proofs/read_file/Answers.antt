@@ -1,6 +1,6 @@
 -- What the loop's invariant says at its end: all that the file had, where a read gave nothing, or as much as there is room for. Assumes nothing.
-use Rattle.std.proofs.Common.{◌≡◌, ◌+◌, ◌-◌, ◌≤◌, ◌<◌, length, take, drop, [], ◌++◌, refl, sym, ap, ◌∙◌, subst, arith, append-nil, length-drop, length-take}
-use mathlib.Core.Logic.{◌⊎◌, ⊎_elim, inl, inr}
+use Rattle.std.proofs.Common.{◌≡◌, ◌-◌, ◌≤◌, ◌<◌, length, take, [], ◌++◌, sym, ap, ◌∙◌, subst, arith, append-nil, length-drop, length-take}
+use mathlib.Core.Logic.{⊎_elim, inl, inr}
 use lib.Seq.{length-take-le}
 use borrow.Rule.Slice.PartMut.{put_mid, mid_of, take_put, same_len_mid}
 use Rattle.std.specs.Io.KnownBytes.{Consumes}

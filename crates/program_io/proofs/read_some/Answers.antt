@@ -1,11 +1,10 @@
 -- `program_io::read_some` meets its contract: what was read is taken from the front of what the reader had, and where nothing was, it is at its end or the
 -- read failed. Assumes nothing.
-use Rattle.std.proofs.Common.{◌≡◌, ◌≤◌, length, take, [], refl, sym, ap, ◌∙◌, arith}
-use Rattle.std.specs.Prelude.{◌⊎◌}
+use Rattle.std.proofs.Common.{length, ap, arith}
 use mathlib.Core.Logic.{inl, inr}
 use lib.Seq.{length-take-le}
 use Rattle.std.proofs.KnownBytes.{Consumes-nil, Consumes-kept}
-use Rattle.program_io.specs.Outside.{ReadsSome, input_failed}
+use Rattle.program_io.specs.Outside.{input_failed}
 use Rattle.program_io.proofs.read_some.Goals as goal
 
 pub returns-in-Ok-clause-reads : goal.returns-in-Ok-clause-reads

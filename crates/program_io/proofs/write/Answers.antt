@@ -1,5 +1,5 @@
 -- `program_io::write` meets its contract: a text that was taken is written on, and otherwise the desk is closed. Assumes nothing.
-use Rattle.std.proofs.Common.{◌≡◌, refl}
+use Rattle.std.proofs.Common.{refl}
 use Rattle.numbers.proofs.Bools.{clash}
 use Rattle.program_io.specs.Desk.{written_on, output_failed}
 use Rattle.program_io.proofs.write.Goals as goal

@@ -1,0 +1,45 @@
+-- `walk::hand_row` meets its contract: the key at the front of a whole row is legal, so that a listed column of it is always encoded; what is written is
+-- the instance, and what is copied the key (`Reached`). Assumes nothing.
+use mathlib.Core.Path.{refl, ◌∙◌}
+use Prim.Native.Nat.{ℕ, ◌+◌, ◌-◌}
+use native.Mathlib.Omega.{arith}
+use lib.ListN.{take, drop}
+use Rattle.numbers.specs.BigEndian.{Octets}
+use Rattle.numbers.proofs.Laid.{laid-paste}
+use Rattle.instance_encode.proofs.Encoded.{encoded-always}
+use Rattle.walk.proofs.Reached.{key-short, slice-length, slice-legal, hands-row}
+use Rattle.walk.proofs.hand_row.Goals as goal
+
+-- where the key ends
+
+pub copy_in-requires : goal.copy_in-requires
+copy_in-requires c =
+    let octets : Octets c.args.w.now = λ i. omega (arith, c.shared_slice_known-1.given i) in
+    let to : ℕ = c.args.at + c.key_end-n.result in
+    let a = c.args in
+    let n = c.key_end-n.result in
+    let m = c.pre.0 in
+    omega (
+      arith,
+      slice-length a.w.now octets a.t a.column a.at a.end m n c.key_end-n.ensures to refl,
+      key-short a.w.now octets a.t a.column a.at a.end m n c.key_end-n.ensures,
+      c.pre.1.1,
+    )
+
+pub returns-in-Length : goal.returns-in-Length
+returns-in-Length c =
+    let octets : Octets c.args.w.now = λ i. omega (arith, c.shared_slice_known-1.given i) in
+    let to : ℕ = c.args.at + c.key_end-n.result in
+    let a = c.args in
+    hands-row a.w.now octets a.t a.column a.at a.end c.pre.0 c.key_end-n.result c.key_end-n.ensures to refl
+    c.encode.ensures c.pre.1.0 c.in-Length.is
+    (c.copy_in.ensures ∙ laid-paste 0 (take (to - a.at) (drop a.at a.w.now)) a.key.now)
+
+pub returns-in-Unwritten : goal.returns-in-Unwritten
+returns-in-Unwritten c =
+    let octets : Octets c.args.w.now = λ i. omega (arith, c.shared_slice_known-1.given i) in
+    let to : ℕ = c.args.at + c.key_end-n.result in
+    let a = c.args in
+    absurd (encoded-always a.t a.column _ c.pre.0.listed
+    (slice-legal a.w.now octets a.t a.column a.at a.end c.pre.0 c.key_end-n.result c.key_end-n.ensures to refl)
+    c.encode.ensures c.pre.1.0 c.in-Unwritten.is)
