@@ -12,7 +12,7 @@ use Rattle.image_layout.specs.Layout.{layout_of}
 use Rattle.image.specs.Store.{is_sound}
 use Rattle.edit_rules.specs.declared.Operation.{Operation}
 use Rattle.edit_rules.specs.declared.Edited.{Edited}
-use Rattle.edit_rules.specs.declared.Edited.TheVariants.{Done, Barred, Faulty}
+use Rattle.edit_rules.specs.declared.Edited.TheVariants.{Barred, Faulty}
 use Rattle.edit_rules.specs.Edits.{Outcome, Edit, Caller, edit_of, legal_caller, legal_edit, judgement, is_context, row_fault, faulted, settled}
 pub use Rattle.edit_rules.specs.Edits.{edited_number}
 use Rattle.edit_rows.specs.Promise.{Edits}

@@ -22,7 +22,7 @@ use Rattle.edit_rules.specs.declared.Edited.{Edited}
 use Rattle.edit_rules.specs.declared.Edited.TheVariants.{Done, Faulty}
 use Rattle.edit_rules.specs.TableRows.{row_of}
 use Rattle.edit_rules.specs.Edits.{Edit, Caller, Outcome, edit_of, shape_of, legal_caller, edited_number}
-use Rattle.edit_rules.proofs.Outcomes.{tables, rows_within}
+use Rattle.edit_rules.proofs.Outcomes.{tables, rows_in_lem}
 use Rattle.edit_rows.specs.Promise.{answered, left}
 use Rattle.edit_rows.proofs.Stores.{store_rows, held-sound, held-is, held-ascends, edits-unsound}
 use Rattle.edits.specs.Calls.{owner_edit, principal_judged, OwnerEdits}
@@ -71,7 +71,7 @@ module _ (ts : Tables) (c : Caller) (es : List Edit) where
 pub held-limited : (w : List ℕ) {ts : Tables} → held w ≡ some ts → Limited ts
 held-limited w e t =
     let h = held-is w e in
-    rw (h.1, rows_within (store_rows w) t, length-map (table_rows t w) (row_of t)) ((store-sound w h.0).few t)
+    rw (h.1, rows_in_lem (store_rows w) t, length-map (table_rows t w) (row_of t)) ((store-sound w h.0).few t)
 
 module _ (c : Caller) (es : List Edit) (w : List ℕ) where
   set-unsound : is_sound w ≡ false → PrincipalSets c es w w (answer_at (Faulty NotSound) 0)

@@ -9,8 +9,6 @@ use Rattle.call_answers.specs.Answers.{column_key_of}
 use Rattle.call_answers.proofs.Room.{begun-fits}
 use Rattle.call_answers.proofs.put_column_key.Goals as goal
 
--- what is left behind the column, and behind the space
-
 pub put_decimal-space-requires : goal.put_decimal-space-requires
 put_decimal-space-requires c =
     let a = c.args in
@@ -25,7 +23,7 @@ pub put_entry-requires : goal.put_entry-requires
 put_entry-requires c =
     let counted : let a = c.args in Onward (column_key_of a.t a.column a.key.now) a.at a.out.now (32 ∷ key_text a.t (values (key_fields a.t) a.key.now)) c.put_decimal-space.result c.put_decimal-space.new.out = step (decimal_text c.args.column) _ (begun c.requires.room) c.put_decimal-space.ensures in
     let spaced : let a = c.args in Onward (column_key_of a.t a.column a.key.now) a.at a.out.now (key_text a.t (values (key_fields a.t) a.key.now)) c.put_octet-next.result c.put_octet-next.new.out = step (32 ∷ []) _ counted c.put_octet-next.ensures in
-    record { legal = c.requires.legal; room = (spaced).ranges }
+    record { legal = c.requires.legal; room = spaced.fits }
 
 pub returns : goal.returns
 returns c =

@@ -2,8 +2,6 @@
 use Rattle.call_answers.proofs.Instances.{Handed, decoded-handed, decoded-fault}
 use Rattle.call_answers.proofs.tell_decoded.Goals as goal
 
--- what was decoded
-
 pub slice_bounds-tell_instance-end : goal.slice_bounds-tell_instance-end
 slice_bounds-tell_instance-end c =
     let handed : Handed c.args.oid.now c.decode-decoded.new.key c.in-Instance.t c.in-Instance.column c.in-Instance.n = decoded-handed c.args.oid.now _ c.decode-decoded.new.key c.decode-decoded.ensures c.in-Instance.is in

@@ -9,8 +9,6 @@ use Rattle.call_answers.specs.Answers.{oid_text}
 use Rattle.call_answers.proofs.Instances.{Encoded, encoded-told, encoded-fault}
 use Rattle.call_answers.proofs.tell_encoded.Goals as goal
 
--- what was encoded
-
 pub slice_bounds-put_dotted-end : goal.slice_bounds-put_dotted-end
 slice_bounds-put_dotted-end c =
     let encoded : let a = c.args in Encoded a.t a.column a.key.now c.encode-written.new.out c.in-Length.n = let a = c.args in encoded-told a.t a.column a.key.now _ c.encode-written.new.out c.encode-written.ensures refl c.in-Length.is in
@@ -19,16 +17,16 @@ slice_bounds-put_dotted-end c =
 pub put_dotted-requires : goal.put_dotted-requires
 put_dotted-requires c =
     let encoded : let a = c.args in Encoded a.t a.column a.key.now c.encode-written.new.out c.in-Length.n = let a = c.args in encoded-told a.t a.column a.key.now _ c.encode-written.new.out c.encode-written.ensures refl c.in-Length.is in
-    behind oid_text (dotted_text (take (c.in-Length.n - 0) c.encode-written.new.out)) (omega (arith, (encoded).short, c.pre))
-    c.put-text.ensures
+    behind oid_text (dotted_text (take (c.in-Length.n - 0) c.encode-written.new.out)) (omega (arith, (encoded).short, c.requires))
+    c.put_text-next.ensures
 
 pub returns-in-Length : goal.returns-in-Length
 returns-in-Length c =
     let encoded : let a = c.args in Encoded a.t a.column a.key.now c.encode-written.new.out c.in-Length.n = let a = c.args in encoded-told a.t a.column a.key.now _ c.encode-written.new.out c.encode-written.ensures refl c.in-Length.is in
     rw (← (encoded).text_is)
     (record {
-      puts = both oid_text (dotted_text (take (c.in-Length.n - 0) c.encode-written.new.out)) (omega (arith, (encoded).short, c.pre))
-          c.put-text.ensures c.put_dotted.ensures;
+      puts = both oid_text (dotted_text (take (c.in-Length.n - 0) c.encode-written.new.out)) (omega (arith, (encoded).short, c.requires))
+          c.put_text-next.ensures c.put_dotted.ensures;
       short = (encoded).short;
     })
 

@@ -15,8 +15,6 @@ judge_by-judged-requires c =
     c.requires
     -- labels: standing, whole
 
--- the row is of no context, and what was judged
-
 pub returns-in-Refused : goal.returns-in-Refused
 returns-in-Refused c =
     let judged : let a = c.args in admission false c.judge_by-judged.result ≡ admission (is_context a.t) (judged_by a.w.now a.standing a.s a.t (index_of a.t a.key.now)) = ap₂ admission (sym c.if-is_context.false ∙ c.is_context.ensures) c.judge_by-judged.ensures in

@@ -15,8 +15,6 @@ use Rattle.edit_rules.proofs.Refusals.{refusals-same}
 use Rattle.edit_rights.proofs.Written.{first-listed, column-set, column-inside}
 use Rattle.edit_rights.proofs.judge_in.Goals as goal
 
--- the column that is encoded is a listed one
-
 pub returns-in_default : goal.returns-in_default
 returns-in_default c =
     let listed : lists c.args.t c.columns_written-columns.result.first ≡ true = let a = c.args in let r = c.columns_written-columns in first-listed a.s a.t r.result.first r.result.count r.ensures.written in
@@ -26,8 +24,6 @@ pub slice_bounds-parts-end : goal.slice_bounds-parts-end
 slice_bounds-parts-end c =
     let listed : lists c.args.t c.columns_written-columns.result.first ≡ true = let a = c.args in let r = c.columns_written-columns in first-listed a.s a.t r.result.first r.result.count r.ensures.written in
     encoded-room c.args.t _ c.args.key.now listed c.requires.whole c.encode-written.ensures refl c.in-Length.is
-
--- the parts handed are the instance of the first column
 
 pub judge_columns-requires : goal.judge_columns-requires
 judge_columns-requires c =

@@ -47,8 +47,11 @@ admit-admission-requires c =
     let facts : let a = c.args in (is_sound a.store.now ≡ true) × (legal_edit (wanted) ≡ true) × (c.in-Ready.l ≡ layout_of a.store.now) × (c.in-Ready.k ≡ span (key_fields a.t) a.bytes.now) = let a = c.args in ready a.o a.t a.store.now a.bytes.now (sym c.in-Ready.is ∙ c.prepare-prepared.ensures) in
     let handed-bytes : Octets c.args.bytes.now = λ i. omega (arith, c.type_inv.bytes i) in
     let whole : let a = c.args in faults (fields_of (shape_of a.o) a.t) a.bytes.now ≡ none = let a = c.args in ready-whole a.o a.t a.store.now a.bytes.now (facts).1 in
-    let a = c.args in record { standing = c.standing_of-standing.ensures.lies; whole = rw (key-part a.t a.bytes.now (sym (facts).3))
-          (key_legal (shape_of a.o) a.t a.bytes.now handed-bytes whole) }
+    let a = c.args in record {
+      standing = c.standing_of-standing.ensures.lies;
+      whole = rw (key-part a.t a.bytes.now (sym (facts).3))
+          (key_legal (shape_of a.o) a.t a.bytes.now handed-bytes whole);
+    }
 
 pub returns-in-Denied : goal.returns-in-Denied
 unfolding index_of_edit

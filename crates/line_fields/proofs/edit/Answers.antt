@@ -26,12 +26,15 @@ pub returns : goal.returns
 unfolding operation_named split
 returns c =
     let found : c.place_of.result ≡ place c.args.word.now (words_of operation_word operations) = c.place_of.ensures in
-    let named : some c.match-place_of.operation ≡ operation_named c.args.word.now = 
-        elim c.match-place_of.branch [
-            in-0 w ↦ rw w.operation-is (named-at operation_word _ operations 0 (sym w.in-0.is ∙ found))
-            | in-1 w ↦ rw w.operation-is (named-at operation_word _ operations 1 (sym w.in-1.is ∙ found))
-            | in-2 w ↦ rw w.operation-is (named-at operation_word _ operations 2 (sym w.in-2.is ∙ found))
-        ] in
+    let named : some c.match-place_of.operation ≡ operation_named c.args.word.now =
+    elim c.match-place_of.branch [
+      | in-0 w ↦ rw w.operation-is (named-at operation_word _ operations 0 (sym w.in-0.is ∙ found))
+      | in-1 w ↦ rw w.operation-is (named-at operation_word _ operations 1 (sym w.in-1.is ∙ found))
+      | in-2 w ↦ rw w.operation-is (named-at operation_word _ operations 2 (sym w.in-2.is ∙ found))
+    ] in
     let s = c.args in
-    let ws = words_from s.at s.line.now in record { finds = rw (edit-named s.word.now ws named)
-          (entry-finds c.match-place_of.operation c.entry.result s.from s.at s.line.now c.entry.ensures.enters); lays = rw (edit-front s.word.now ws named) c.entry.ensures.lays }
+    let ws = words_from s.at s.line.now in record {
+      finds = rw (edit-named s.word.now ws named)
+          (entry-finds c.match-place_of.operation c.entry.result s.from s.at s.line.now c.entry.ensures.enters);
+      lays = rw (edit-front s.word.now ws named) c.entry.ensures.lays;
+    }

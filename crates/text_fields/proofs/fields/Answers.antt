@@ -12,14 +12,6 @@ use Rattle.text_fields.specs.FieldWords.{field_said, word_bytes}
 use Rattle.text_fields.proofs.RowWords.{OnWay, way-start, missing-none, missing-lays, word_room, bad-none, bad-lays, way_next, end-places, end-lays}
 use Rattle.text_fields.proofs.fields.Goals as goal
 
--- in a turn the field at i is the next one
-
--- its word
-
--- what the word says of it
-
--- the fields behind it
-
 pub loop-i-init : goal.loop-i-init
 loop-i-init c = (omega arith, refl, way-start _ c.requires.room)
 

@@ -13,10 +13,6 @@ use Rattle.text_fields.proofs.Buffers.{laid-front, bytes_of-octet}
 use Rattle.text_fields.proofs.FieldWords.{counted_none, counted-some, name-long, name-short}
 use Rattle.text_fields.proofs.name.Goals as goal
 
--- the octets read
-
--- and that one octet counts them
-
 pub returns-then-word : goal.returns-then-word
 returns-then-word c = unsaid _ (name-long _ c.if-word.true)
 

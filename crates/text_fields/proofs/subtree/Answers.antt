@@ -16,8 +16,6 @@ use Rattle.text_fields.proofs.Buffers.{laid-front, Whole, whole}
 use Rattle.text_fields.proofs.FieldWords.{counted_none, counted-over, counted-some}
 use Rattle.text_fields.proofs.subtree.Goals as goal
 
--- the sub-identifiers read
-
 pub returns-in_default : goal.returns-in_default
 returns-in_default c = unsaid _ (counted_none quad (rw c.in_default.is at c.dotted.ensures).is)
 

@@ -10,12 +10,6 @@ use Rattle.text_words.proofs.Words.{reads-start, reads-next, reads_none, reads_e
 use Rattle.text_words.proofs.Words.{dotted-dash, dotted-some, dots-last, dots-next, dots-bad, part-some, number_is, number-bad}
 use Rattle.text_words.proofs.dotted.Goals as goal
 
--- it is not `-`
-
--- and it is judged
-
--- what a part isSaid, and that there is room for it
-
 pub returns-then-are_same : goal.returns-then-are_same
 returns-then-are_same c = empty-said _ _ _ (dotted-dash _ (sym c.are_same.ensures ∙ c.if-are_same.true)) (omega arith)
 

@@ -12,14 +12,6 @@ use Rattle.text_words.proofs.Words.{reads-start, reads-next, reads_none, reads-b
 use Rattle.text_words.proofs.Words.{number_is, number-bad, hex-empty, hex-dash, hex-some, pairs-odd, pairs_next, pairs_end, hex_pair-below}
 use Rattle.text_words.proofs.hex_octets.Goals as goal
 
--- it is neither empty nor `-`
-
--- and it is judged
-
--- so a digit is followed by another
-
--- what a pair says
-
 pub returns-then-word-eq0 : goal.returns-then-word-eq0
 returns-then-word-eq0 c = unsaid _ (hex-empty _ c.if-word-eq0.true)
 

@@ -4,8 +4,6 @@ use borrow.Author.Rules.{rules}
 use Rattle.text_words.proofs.WordsFrom.{WordAt, word-from, passed_start, passed-end, passed_here, passed-next}
 use Rattle.text_words.proofs.place_of.Goals as goal
 
--- the word at the place
-
 pub loop-at-init : goal.loop-at-init
 loop-at-init c = (omega arith, omega arith, passed_start _ _)
 

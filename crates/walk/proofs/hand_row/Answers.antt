@@ -18,12 +18,12 @@ copy_in-requires c =
     let to : ℕ = c.args.at + c.key_end-n.result in
     let a = c.args in
     let n = c.key_end-n.result in
-    let m = c.pre.0 in
+    let m = c.requires.row in
     omega (
       arith,
       slice-length a.w.now octets a.t a.column a.at a.end m n c.key_end-n.ensures to refl,
       key-short a.w.now octets a.t a.column a.at a.end m n c.key_end-n.ensures,
-      c.pre.1.1,
+      c.requires.room,
     )
 
 pub returns-in-Length : goal.returns-in-Length
@@ -31,8 +31,8 @@ returns-in-Length c =
     let octets : Octets c.args.w.now = λ i. omega (arith, c.shared_slice_known-1.given i) in
     let to : ℕ = c.args.at + c.key_end-n.result in
     let a = c.args in
-    hands-row a.w.now octets a.t a.column a.at a.end c.pre.0 c.key_end-n.result c.key_end-n.ensures to refl
-    c.encode.ensures c.pre.1.0 c.in-Length.is
+    hands-row a.w.now octets a.t a.column a.at a.end c.requires.row c.key_end-n.result c.key_end-n.ensures to refl
+    c.encode.ensures c.requires.parts c.in-Length.is
     (c.copy_in.ensures ∙ laid-paste 0 (take (to - a.at) (drop a.at a.w.now)) a.key.now)
 
 pub returns-in-Unwritten : goal.returns-in-Unwritten
@@ -40,6 +40,6 @@ returns-in-Unwritten c =
     let octets : Octets c.args.w.now = λ i. omega (arith, c.shared_slice_known-1.given i) in
     let to : ℕ = c.args.at + c.key_end-n.result in
     let a = c.args in
-    absurd (encoded-always a.t a.column _ c.pre.0.listed
-    (slice-legal a.w.now octets a.t a.column a.at a.end c.pre.0 c.key_end-n.result c.key_end-n.ensures to refl)
-    c.encode.ensures c.pre.1.0 c.in-Unwritten.is)
+    absurd (encoded-always a.t a.column _ c.requires.row.listed
+    (slice-legal a.w.now octets a.t a.column a.at a.end c.requires.row c.key_end-n.result c.key_end-n.ensures to refl)
+    c.encode.ensures c.requires.parts c.in-Unwritten.is)

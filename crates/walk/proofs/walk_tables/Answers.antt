@@ -10,16 +10,16 @@ pub in_tables-met-requires : goal.in_tables-met-requires
 in_tables-met-requires c = record { tables = c.requires.tables; view = viewed-in c.authorize-authorized.ensures c.in-Viewed.is }
 
 pub hand_back-requires : goal.hand_back-requires
-hand_back-requires c = record { met = c.in_tables-met.ensures.row; parts = c.pre.1.1.0; room = c.pre.1.1.1 }
+hand_back-requires c = record { met = c.in_tables-met.ensures.row; parts = c.requires.parts; room = c.requires.room }
 
 pub returns-in-Denied : goal.returns-in-Denied
 returns-in-Denied c =
-    rw (walk-denied c.authorize-authorized.ensures c.args.identifier.now c.pre.1.0 c.in-Denied.is)
+    rw (walk-denied c.authorize-authorized.ensures c.args.identifier.now c.requires.legal c.in-Denied.is)
     (hands-nothing (Walked.Denied _) _ _ tt)
 
 pub returns-in-Viewed : goal.returns-in-Viewed
 returns-in-Viewed c =
     rw (
-      walk-viewed c.authorize-authorized.ensures c.args.identifier.now c.pre.1.0 c.in-Viewed.is c.pre.0,
+      walk-viewed c.authorize-authorized.ensures c.args.identifier.now c.requires.legal c.in-Viewed.is c.requires.tables,
       ← c.in_tables-met.ensures.is,
     ) c.hand_back.ensures

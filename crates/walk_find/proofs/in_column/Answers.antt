@@ -24,7 +24,7 @@ returns-in_default c =
     }
 
 pub first_row-requires : goal.first_row-requires
-first_row-requires c = record { rows = c.rows_above-above.ensures.sound; view = c.pre.1.0; listed = c.pre.1.1 }
+first_row-requires c = record { rows = c.rows_above-above.ensures.sound; view = c.requires.view; listed = c.requires.listed }
 
 pub returns : goal.returns
 returns c =

@@ -2,7 +2,6 @@
 -- (`Stops`). Assumes nothing.
 use mathlib.Core.Path.{sym}
 use mathlib.Core.List.{map}
-use Prim.Native.Nat.{◌-◌}
 use native.Mathlib.Nat.{sub-zero}
 use Rattle.image_layout.specs.Layout.{rows_in}
 use Rattle.decision_parts.specs.Parts.{rows_of}
@@ -17,7 +16,7 @@ use Rattle.walk_find.proofs.in_table.Goals as goal
 
 pub returns-in_default : goal.returns-in_default
 returns-in_default c =
-    let based : GoesOn c.args.identifier.now (base c.args.t) c.past-onward.result = let n = c.base-len in let f = c.base-of in rw (sub-zero n.result, base-taken c.args.t n.result f.result n.ensures.0 f.ensures) at c.past-onward.ensures in
+    let based : GoesOn c.args.identifier.now (base c.args.t) c.past-onward.result = let n = c.base_len-n in let f = c.base_of-front in rw (sub-zero n.result, base-taken c.args.t n.result f.result n.ensures.parts f.ensures) at c.past-onward.ensures in
     let a = c.args in
     record {
       row = tt;
@@ -27,6 +26,6 @@ returns-in_default c =
 
 pub in_columns-requires : goal.in_columns-requires
 in_columns-requires c =
-    let based : GoesOn c.args.identifier.now (base c.args.t) c.past-onward.result = let n = c.base-len in let f = c.base-of in rw (sub-zero n.result, base-taken c.args.t n.result f.result n.ensures.0 f.ensures) at c.past-onward.ensures in
+    let based : GoesOn c.args.identifier.now (base c.args.t) c.past-onward.result = let n = c.base_len-n in let f = c.base_of-front in rw (sub-zero n.result, base-taken c.args.t n.result f.result n.ensures.parts f.ensures) at c.past-onward.ensures in
     let e = c.in-From.is in
-    record { rows = c.pre.0; view = c.pre.1; left = record { place = left-place based e; is = sym (left_is based e) } }
+    record { rows = c.requires.rows; view = c.requires.view; left = record { place = left-place based e; is = sym (left_is based e) } }

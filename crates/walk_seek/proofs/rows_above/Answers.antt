@@ -1,6 +1,4 @@
 use mathlib.Core.Path.{sym, ◌∙◌}
-use Prim.Native.Nat.{◌-◌}
-use lib.ListN.{length}
 use Rattle.walk_seek.proofs.Seeks.{seek-start, seek-down, seek-up, seek-end, middle-whole}
 use Rattle.walk_seek.proofs.rows_above.Goals as goal
 
