@@ -72,12 +72,7 @@ pub fn bench_decide(
 }
 
 // The owner's edit, by its number.
-pub fn bench_owner_edit(
-    store: &mut [u8],
-    operation: u32,
-    table: u32,
-    bytes: &[u8],
-) -> u32
+pub fn bench_owner_edit(store: &mut [u8], operation: u32, table: u32, bytes: &[u8]) -> u32
     ensures { Numbered edited_number (OwnerEdits (edit_of (operation_numbered operation) (table_numbered table) bytes.now)
         store.old store.new) result }
 {

@@ -1,6 +1,7 @@
 -- A walk told: an instance by its own text, which is short, and a refusal by its number; of equal things the same is told. Assumes nothing.
 use types.Run.{OneOf, miss}
 use denote.Enum.Declared.{tag_of}
+use mathlib.Core.Logic.{inl, inr}
 use mathlib.Core.Path.{◌≡◌, refl}
 use mathlib.Core.List.{List, [], ◌∷◌, ◌++◌}
 use mathlib.Core.Option.{none}
@@ -40,6 +41,13 @@ next-short instance t column key few o h =
 pub next-legal : (r : Walked) (key : List ℕ) → LegalKey r key → {n : ℕ} {t : Table} {column m : ℕ} → r ≡ Next n t column m
     → faults (key_fields t) (take (m - 0) key) ≡ none
 next-legal r key l {m = m} q = let y : m - 0 ≡ m = omega arith in rw y (rw q at l)
+
+-- what is no instance has the number of another variant
+pub refused_one : (r : Walked) → ((n : ℕ) (t : Table) (column m : ℕ) → r ≡ Next n t column m → ⊥) → OneOf (1 ∷ 2 ∷ 3 ∷ []) (tag_of the_type r)
+refused_one (Next n t column m) h = absurd (h n t column m refl)
+refused_one EndOfMibView h = inl refl
+refused_one (Denied cause) h = inr (inl refl)
+refused_one (Faulty fault) h = inr (inr refl)
 
 -- by the numbers of the variants
 refused-text : (r : Walked) (parts key : List ℕ) → OneOf (1 ∷ 2 ∷ 3 ∷ []) (tag_of the_type r) → decimal_text (walked_number r) ≡ walk_text (handed r parts key)

@@ -29,7 +29,7 @@ use Rattle.table_update.proofs.Keys.{Whole}
 use Rattle.table_update.proofs.Stores.{sound-whole}
 use Rattle.edit_rules.specs.TableRows.{RowOf, row_of, row_index, values_of, rows_of}
 use Rattle.edit_rules.specs.Edits.{Caller}
-use Rattle.edit_rules.proofs.Outcomes.{rows_within}
+use Rattle.edit_rules.proofs.Outcomes.{rows_in_lem}
 use Rattle.edit_rows.proofs.Stores.{store_rows, held-is}
 use Rattle.walk_rules.specs.declared.Walked.TheVariants.{Faulty}
 use Rattle.walk_rules.specs.Walk.{Instance, instance_of, of_columns, of_table, instances, is_allowed, may_read, follows, least, next_instance, refusal, reaching}
@@ -78,7 +78,7 @@ legal-rows t (r ∷ rs) a = and_both (ap (legals (key_fields t)) (key-read t r) 
 pub held-legal : (s : List ℕ) → Octets s → {ts : Tables} → held s ≡ some ts → LegalKeys ts
 held-legal s b e t =
     let h = held-is s e in
-    rw (h.1, rows_within (store_rows s) t) (legal-rows t (table_rows t s) (sound-whole t s h.0 b))
+    rw (h.1, rows_in_lem (store_rows s) t) (legal-rows t (table_rows t s) (sound-whole t s h.0 b))
 
 -- ---- a test that fails outside the circle picks the same from the circle's rows as from all
 

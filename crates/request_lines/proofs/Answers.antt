@@ -1,6 +1,6 @@
 -- Laws of the answer to a line: one that is too long or says no request is malformed, and otherwise the request that was read is answered.
 -- Assumes nothing.
-use mathlib.Core.Path.{◌≡◌, sym, ap, ◌∙◌}
+use mathlib.Core.Path.{◌≡◌, sym}
 use mathlib.Core.List.{List}
 use mathlib.Core.Option.{none, some}
 use Prim.Native.Nat.{ℕ, ◌≤◌, ◌<◌}
@@ -11,7 +11,7 @@ use Rattle.text_words.specs.Words.{longest, words, words_from}
 use Rattle.text_words.proofs.WordsFrom.{from_start}
 use Rattle.text_rows.specs.declared.Slot.{Slot}
 use Rattle.line_fields.specs.Kinds.{values_said}
-use Rattle.line_fields.specs.Requests.{request_kinds, request_in, request}
+use Rattle.line_fields.specs.Requests.{request_kinds, request_in}
 use Rattle.line_fields.specs.Slots.{Whole}
 use Rattle.line_fields.proofs.RequestSlots.{request-said, request-none}
 use Rattle.request_lines.specs.Answers.{malformed, request_answer, line_answer}

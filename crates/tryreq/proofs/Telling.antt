@@ -8,12 +8,14 @@ use mathlib.Core.List.{List, [], ◌∷◌, ◌++◌, append_assoc, append-nil}
 use Prim.Native.Nat.{ℕ, ◌+◌, ◌-◌, ◌≤◌}
 use native.Mathlib.Omega.{arith}
 use lib.ListN.{length, take, length-append}
+use Rattle.std.specs.Prelude.{Option}
 use Rattle.numbers.proofs.Laid.{laid_nil}
 use Rattle.rows.specs.Tables.{Tables}
 use Rattle.text_values.specs.Texts.{Puts}
 use Rattle.text_values.proofs.Puts.{front, kept as Puts·kept}
 use Rattle.program_io.specs.declared.Desk.{Desk}
 use Rattle.program_io.specs.Lines.{lines_of, kept}
+use Rattle.program_io.specs.Outside.{Outside, outside}
 use Rattle.program_io.specs.Desk.{Moved, new_line, Taken, AllTaken, Writes, Refills, NextLine, LastLine, Opens}
 use Rattle.program_io.proofs.TakenLines.{taken-written, all-written}
 use Rattle.request_lines.specs.Answers.{line_answer}
@@ -22,17 +24,17 @@ use Rattle.request_lines.proofs.Told.{told-most}
 use Rattle.request_lines.proofs.Reports.{report-more, report-none, report-kept}
 use Rattle.tryreq.specs.Runs.{told_of, Answers, Due, Reports}
 
-pub record Telling (t : Tables) (d : Desk) (piece line out : List ℕ) (used : ℕ) : Type 0 where
+pub record Telling (t : Tables) (from to : Outside) (d : Desk) (piece line out : List ℕ) (used : ℕ) : Type 0 where
   pub text : List ℕ
   pub lines : List (List ℕ)
-  pub taken : Taken d piece line text lines
+  pub taken : Taken from to d piece line text lines
   pub told_is : text ++ take used out ≡ report t 0 lines
 
 module _ (t : Tables) where
   -- nothing is told yet
-  pub telling-none : {d : Desk} → Opens d → (piece line out : List ℕ) → Telling t d piece line out 0
-  telling-none o piece line out =
-      record { text = []; lines = []; taken = o.taken piece line; told_is = sym (report-none t 0) }
+  pub telling-none : {d : Desk} → Opens d → (from : Outside) (piece line out : List ℕ) → Telling t from from d piece line out 0
+  telling-none o from piece line out =
+      record { text = []; lines = []; taken = o.taken from piece line; told_is = sym (report-none t 0) }
 
   -- ---- the answer to the line that was found, if one was
 
@@ -84,15 +86,16 @@ module _ (t : Tables) where
         ∙ report-found d line lines n
 
     -- a line of the piece
-    pub telling-line : {d₀ : Desk} {piece line₀ : List ℕ} → Telling t d₀ piece line₀ out used → NextLine d₀ d piece line₀ line
-        → Telling t d piece line out' used'
+    pub telling-line : {from to : Outside} {d₀ : Desk} {piece line₀ : List ℕ} → Telling t from to d₀ piece line₀ out used → NextLine d₀ d piece line₀ line
+        → Telling t from to d piece line out' used'
     telling-line s n =
         let x = n.taken s.taken in
         record { text = s.text; lines = _; taken = x; told_is = told-on s.text s.lines s.told_is x.number_is }
 
     -- the last line, and all that is told is written
-    pub telling-last : {d₀ r : Desk} {piece : List ℕ} → Telling t d₀ piece line out used → LastLine d₀ d → d₀.begun ≤ length line → d₀.at ≡ d₀.end
-        → (d₀.writable ≡ true → d₀.reads ≡ 0) → Writes d r (take (used' - 0) out') → Reports t r
+    pub telling-last : {from : Outside} {unread held holds : Option (List ℕ)} {d₀ r : Desk} {piece : List ℕ}
+        → Telling t from (outside unread held) d₀ piece line out used → LastLine d₀ d → d₀.begun ≤ length line → d₀.at ≡ d₀.end
+        → (d₀.writable ≡ true → d₀.reads ≡ 0) → Writes held holds d r (take (used' - 0) out') → Reports t from (outside unread holds) r
     telling-last s n i e z w =
         let x = n.taken s.taken i e z in
         let y = all-written w x in
@@ -104,13 +107,16 @@ module _ (t : Tables) where
               let m = y.moved o in
               rw (← (ap (λ n. s.text ++ take n out') u ∙ k ∙ ap (report t 0) (sym (y.all o)) ∙ report-kept t 0 (lines_of y.input))) m;
           ended = y.ended;
+          read_all = y.read_all;
           closed = y.closed;
         }
 
-  module _ {d r : Desk} {piece line out : List ℕ} {used : ℕ} (s : Telling t d piece line out used) where
+  module _ {from : Outside} {unread held : Option (List ℕ)} {d r : Desk} {piece line out : List ℕ} {used : ℕ}
+      (s : Telling t from (outside unread held) d piece line out used) where
     -- all that is told is written, or nothing
-    pub telling-written : {n : ℕ} → Due used n → Writes d r (take (n - 0) out) → Telling t r piece line out (used - n)
-    telling-written {n} u w = record {
+    pub telling-written : {holds : Option (List ℕ)} {n : ℕ} → Due used n → Writes held holds d r (take (n - 0) out)
+        → Telling t from (outside unread holds) r piece line out (used - n)
+    telling-written {holds} {n} u w = record {
       text = s.text ++ take (n - 0) out;
       lines = s.lines;
       taken = taken-written w s.taken;
@@ -129,5 +135,6 @@ module _ (t : Tables) where
             let b : used - n ≡ used = omega arith in
             rw (a, b) (ap (λ u. u ++ take used out) (append-nil s.text))
 
-    pub telling-refilled : {piece' : List ℕ} → Refills d r piece piece' → Telling t r piece' line out used
+    pub telling-refilled : {has : Option (List ℕ)} {piece' : List ℕ} → Refills unread has d r piece piece'
+        → Telling t from (outside has held) r piece' line out used
     telling-refilled f = record { text = s.text; lines = s.lines; taken = f.taken s.taken; told_is = s.told_is }

@@ -8,10 +8,10 @@ use Rattle.call_verbs.proofs.phrase_of.Goals as goal
 
 pub returns-then-are_same : goal.returns-then-are_same
 returns-then-are_same c =
-    let first : WordAt 0 c.args.line.now c.end_of_lem.result = word-from _ _ _ (omega arith) c.end_of_lem.ensures in
+    let first : WordAt 0 c.args.line.now c.end_of-end.result = word-from _ _ _ (omega arith) c.end_of-end.ensures in
     first-is-match first (sym c.are_same.ensures ∙ c.if-are_same.true) c.match_phrase.ensures
 
 pub returns : goal.returns
 returns c =
-    let first : WordAt 0 c.args.line.now c.end_of_lem.result = word-from _ _ _ (omega arith) c.end_of_lem.ensures in
+    let first : WordAt 0 c.args.line.now c.end_of-end.result = word-from _ _ _ (omega arith) c.end_of-end.ensures in
     first-is-other first (sym c.are_same.ensures ∙ c.if-are_same.false) c.verb_named-verb.ensures

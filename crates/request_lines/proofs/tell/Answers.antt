@@ -33,5 +33,5 @@ put_octet-requires c =
 pub returns : goal.returns
 returns c =
     let r = told-put c.args.number c.args.answer c.args.at c.args.out.now c.requires c.put_decimal-space.ensures c.put_octet-behind.ensures
-        c.put_decimal-newline.ensures c.put_octet.ensures in
+    c.put_decimal-newline.ensures c.put_octet.ensures in
     record { tells = r.0; within = r.1 }

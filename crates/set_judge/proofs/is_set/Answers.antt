@@ -1,0 +1,28 @@
+-- `set_judge::is_set` meets its contract: how many there are, then their keys. Assumes nothing.
+use mathlib.Core.Path.{◌≡◌, sym, ap, ◌∙◌}
+use lib.ListN.{length}
+use Rattle.numbers.proofs.Bools.{and-false-left}
+use Rattle.rows.specs.Fields.{within}
+use Rattle.rows.proofs.Sound.{within-most}
+use Rattle.set_rules.specs.Sets.{most_edits, is_set}
+use Rattle.set_rules.specs.Handed.{edits_of}
+use Rattle.set_judge.proofs.Bytes.{true-and}
+use Rattle.set_judge.proofs.Places.{length-edits}
+use Rattle.set_judge.proofs.is_set.Goals as goal
+
+-- how many there are
+
+pub returns-then-not-within : goal.returns-then-not-within
+unfolding is_set
+returns-then-not-within c =
+    let many : let a = c.args in within 1 most_edits (length (edits_of a.s a.bytes.now)) ≡ c.within.result = let a = c.args in ap (within 1 most_edits) (length-edits a.s.edits a.bytes.now 0 a.s.count) ∙ sym c.within.ensures in
+    sym (and-false-left _ (many ∙ c.if-not-within.true))
+
+pub keys_differ-requires : goal.keys_differ-requires
+keys_differ-requires c = within-most 1 most_edits _ (sym c.within.ensures ∙ c.if-not-within.false)
+
+pub returns : goal.returns
+unfolding is_set
+returns c =
+    let many : let a = c.args in within 1 most_edits (length (edits_of a.s a.bytes.now)) ≡ c.within.result = let a = c.args in ap (within 1 most_edits) (length-edits a.s.edits a.bytes.now 0 a.s.count) ∙ sym c.within.ensures in
+    c.keys_differ.ensures ∙ true-and _ (many ∙ c.if-not-within.false)
