@@ -1,7 +1,7 @@
 -- How far the lines are answered: what is written and what is told but not written yet is the report of the lines taken. A line taken and told keeps it so,
 -- and so do a text written and a piece read; at the input's end all of its lines are taken, and the report of what is kept of them is that of them.
 -- Assumes nothing.
-use mathlib.Core.Path.{◌≡◌, refl, sym, ap, ◌∙◌}
+use mathlib.Core.Path.{◌≡◌, sym, ap, ◌∙◌}
 use mathlib.Core.Bool.{Bool, true, false, cond}
 use mathlib.Core.Logic.{⊎_elim}
 use mathlib.Core.List.{List, [], ◌∷◌, ◌++◌, append_assoc, append-nil}
@@ -14,9 +14,9 @@ use Rattle.rows.specs.Tables.{Tables}
 use Rattle.text_values.specs.Texts.{Puts}
 use Rattle.text_values.proofs.Puts.{front, kept as Puts·kept}
 use Rattle.program_io.specs.declared.Desk.{Desk}
-use Rattle.program_io.specs.Lines.{lines_of, kept}
+use Rattle.program_io.specs.Lines.{lines_of}
 use Rattle.program_io.specs.Outside.{Outside, outside}
-use Rattle.program_io.specs.Desk.{Moved, new_line, Taken, AllTaken, Writes, Refills, NextLine, LastLine, Opens}
+use Rattle.program_io.specs.Desk.{new_line, Taken, Writes, Refills, NextLine, LastLine, Opens}
 use Rattle.program_io.proofs.TakenLines.{taken-written, all-written}
 use Rattle.request_lines.specs.Answers.{line_answer}
 use Rattle.request_lines.specs.Report.{most_told, told, report}

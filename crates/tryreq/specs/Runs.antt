@@ -20,7 +20,7 @@ abbrev pub Tells : Option (List ℕ) → (from to : Outside) → Type 0
 Tells known from to =
     InputFailed
     ⊎ IfSome known (λ file.
-        IfSome from.unread (λ input. length input < most_reads → Appends from.held to.held (written (take (largest + 1) file) input)))
+    IfSome from.unread (λ input. length input < most_reads → Appends from.held to.held (written (take (largest + 1) file) input)))
 
 -- A run: of the file `tables.bin` and of standard input. Where standard output took what was written, that is what document 01 has written for the two, and
 -- the input was read to its end, unless the tables are refused. It took less only where a write failed. `known` is what the file is known to have, and the

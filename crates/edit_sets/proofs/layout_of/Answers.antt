@@ -8,7 +8,7 @@ use lib.ListN.{length}
 use Rattle.rows.specs.declared.Table.{Table}
 use Rattle.rows.specs.declared.Table.TheVariants.{Context, Mapping, Access, View}
 use Rattle.image_layout.specs.declared.Extent.{Extent}
-use Rattle.image_layout.specs.Layout.{Inside, extent, following, header, layout_of, extent_of, count, most_rows, end_of}
+use Rattle.image_layout.specs.Layout.{Inside, extent, following, header, laid_out, layout_of, extent_of, count, most_rows, end_of}
 use Rattle.image_layout.proofs.Layouts.{laid-lengths, laid-tables}
 use Rattle.image.proofs.Surveys.{store-tests}
 use Rattle.table_update.proofs.Stores.{sound-few}
@@ -49,65 +49,72 @@ first-same p q r s = rw (p, q, r, s)
 -- it lies within the store, and its lengths among those of few rows
 
 pub end_of-requires : goal.end_of-requires
+unfolding layout_of laid_out
 end_of-requires c =
     let bytes : List ℕ = c.args.w.now in
-    let first : Extent = let c = c.pair_at-c.result in extent 8 (8 + 2 * (c + c.pair_at-m.result + c.pair_at-a.result + c.pair_at-v.result)) c in
+    let first : Extent = extent 8 (8 + 2 * (c.pair_at-c.result + c.pair_at-m.result + c.pair_at-a.result + c.pair_at-v.result)) c.pair_at-c.result in
     let first-is : first ≡ extent_of Context (layout_of (bytes)) = first-same c.pair_at-c.ensures.number c.pair_at-m.ensures.number c.pair_at-a.ensures.number c.pair_at-v.ensures.number in
-    let inside : (t : Table) {x : Extent} → x ≡ extent_of t (layout_of (bytes)) → Inside (bytes) x = λ t e. rw e (table-inside t bytes c.requires) in
-    inside Context first-is
+    let inside : (t : Table) (x : Extent) → x ≡ extent_of t (layout_of (bytes)) → Inside (bytes) x = λ t x e. rw e (table-inside t bytes c.requires) in
+    inside Context _ first-is
 
 pub following-mappings-requires : goal.following-mappings-requires
+unfolding layout_of laid_out
 following-mappings-requires c =
     let bytes : List ℕ = c.args.w.now in
-    let first : Extent = let c = c.pair_at-c.result in extent 8 (8 + 2 * (c + c.pair_at-m.result + c.pair_at-a.result + c.pair_at-v.result)) c in
+    let first : Extent = extent 8 (8 + 2 * (c.pair_at-c.result + c.pair_at-m.result + c.pair_at-a.result + c.pair_at-v.result)) c.pair_at-c.result in
     let first-is : first ≡ extent_of Context (layout_of (bytes)) = first-same c.pair_at-c.ensures.number c.pair_at-m.ensures.number c.pair_at-a.ensures.number c.pair_at-v.ensures.number in
-    let lengths-end : (t : Table) {x : Extent} → x ≡ extent_of t (layout_of (bytes)) → x.lengths + 2 * x.count ≤ header + 2 * most_rows = λ t e. let w = bytes in rw e (laid-lengths w (count 0 w) (count 1 w) (count 2 w) (count 3 w) (sound-few w c.requires) t) in
-    lengths-end Context first-is
+    let lengths-end : (t : Table) (x : Extent) → x ≡ extent_of t (layout_of (bytes)) → x.lengths + 2 * x.count ≤ header + 2 * most_rows = λ t x e. let w = bytes in rw e (laid-lengths w (count 0 w) (count 1 w) (count 2 w) (count 3 w) (sound-few w c.requires) t) in
+    lengths-end Context _ first-is
 
 pub end_of-requires-2 : goal.end_of-requires-2
+unfolding layout_of laid_out
 end_of-requires-2 c =
     let bytes : List ℕ = c.args.w.now in
-    let first : Extent = let c = c.pair_at-c.result in extent 8 (8 + 2 * (c + c.pair_at-m.result + c.pair_at-a.result + c.pair_at-v.result)) c in
+    let first : Extent = extent 8 (8 + 2 * (c.pair_at-c.result + c.pair_at-m.result + c.pair_at-a.result + c.pair_at-v.result)) c.pair_at-c.result in
     let first-is : first ≡ extent_of Context (layout_of (bytes)) = first-same c.pair_at-c.ensures.number c.pair_at-m.ensures.number c.pair_at-a.ensures.number c.pair_at-v.ensures.number in
-    let second_is : c.following-mappings.result ≡ extent_of Mapping (layout_of (bytes)) = next_is bytes first-is c.end_of_lem.ensures c.pair_at-m.ensures.number c.following-mappings.ensures in
-    let inside : (t : Table) {x : Extent} → x ≡ extent_of t (layout_of (bytes)) → Inside (bytes) x = λ t e. rw e (table-inside t bytes c.requires) in
-    inside Mapping second_is
+    let second_is : c.following-mappings.result ≡ extent_of Mapping (layout_of (bytes)) = next_is bytes first-is c.end_of.ensures c.pair_at-m.ensures.number c.following-mappings.ensures in
+    let inside : (t : Table) (x : Extent) → x ≡ extent_of t (layout_of (bytes)) → Inside (bytes) x = λ t x e. rw e (table-inside t bytes c.requires) in
+    inside Mapping _ second_is
 
 pub following-accesses-requires : goal.following-accesses-requires
+unfolding layout_of laid_out
 following-accesses-requires c =
     let bytes : List ℕ = c.args.w.now in
-    let first : Extent = let c = c.pair_at-c.result in extent 8 (8 + 2 * (c + c.pair_at-m.result + c.pair_at-a.result + c.pair_at-v.result)) c in
+    let first : Extent = extent 8 (8 + 2 * (c.pair_at-c.result + c.pair_at-m.result + c.pair_at-a.result + c.pair_at-v.result)) c.pair_at-c.result in
     let first-is : first ≡ extent_of Context (layout_of (bytes)) = first-same c.pair_at-c.ensures.number c.pair_at-m.ensures.number c.pair_at-a.ensures.number c.pair_at-v.ensures.number in
-    let second_is : c.following-mappings.result ≡ extent_of Mapping (layout_of (bytes)) = next_is bytes first-is c.end_of_lem.ensures c.pair_at-m.ensures.number c.following-mappings.ensures in
-    let lengths-end : (t : Table) {x : Extent} → x ≡ extent_of t (layout_of (bytes)) → x.lengths + 2 * x.count ≤ header + 2 * most_rows = λ t e. let w = bytes in rw e (laid-lengths w (count 0 w) (count 1 w) (count 2 w) (count 3 w) (sound-few w c.requires) t) in
-    lengths-end Mapping second_is
+    let second_is : c.following-mappings.result ≡ extent_of Mapping (layout_of (bytes)) = next_is bytes first-is c.end_of.ensures c.pair_at-m.ensures.number c.following-mappings.ensures in
+    let lengths-end : (t : Table) (x : Extent) → x ≡ extent_of t (layout_of (bytes)) → x.lengths + 2 * x.count ≤ header + 2 * most_rows = λ t x e. let w = bytes in rw e (laid-lengths w (count 0 w) (count 1 w) (count 2 w) (count 3 w) (sound-few w c.requires) t) in
+    lengths-end Mapping _ second_is
 
 pub end_of-requires-3 : goal.end_of-requires-3
+unfolding layout_of laid_out
 end_of-requires-3 c =
     let bytes : List ℕ = c.args.w.now in
-    let first : Extent = let c = c.pair_at-c.result in extent 8 (8 + 2 * (c + c.pair_at-m.result + c.pair_at-a.result + c.pair_at-v.result)) c in
+    let first : Extent = extent 8 (8 + 2 * (c.pair_at-c.result + c.pair_at-m.result + c.pair_at-a.result + c.pair_at-v.result)) c.pair_at-c.result in
     let first-is : first ≡ extent_of Context (layout_of (bytes)) = first-same c.pair_at-c.ensures.number c.pair_at-m.ensures.number c.pair_at-a.ensures.number c.pair_at-v.ensures.number in
-    let second_is : c.following-mappings.result ≡ extent_of Mapping (layout_of (bytes)) = next_is bytes first-is c.end_of_lem.ensures c.pair_at-m.ensures.number c.following-mappings.ensures in
+    let second_is : c.following-mappings.result ≡ extent_of Mapping (layout_of (bytes)) = next_is bytes first-is c.end_of.ensures c.pair_at-m.ensures.number c.following-mappings.ensures in
     let third-is : c.following-accesses.result ≡ extent_of Access (layout_of (bytes)) = next_is bytes second_is c.end_of-2.ensures c.pair_at-a.ensures.number c.following-accesses.ensures in
-    let inside : (t : Table) {x : Extent} → x ≡ extent_of t (layout_of (bytes)) → Inside (bytes) x = λ t e. rw e (table-inside t bytes c.requires) in
-    inside Access third-is
+    let inside : (t : Table) (x : Extent) → x ≡ extent_of t (layout_of (bytes)) → Inside (bytes) x = λ t x e. rw e (table-inside t bytes c.requires) in
+    inside Access _ third-is
 
 pub following-views-requires : goal.following-views-requires
+unfolding layout_of laid_out
 following-views-requires c =
     let bytes : List ℕ = c.args.w.now in
-    let first : Extent = let c = c.pair_at-c.result in extent 8 (8 + 2 * (c + c.pair_at-m.result + c.pair_at-a.result + c.pair_at-v.result)) c in
+    let first : Extent = extent 8 (8 + 2 * (c.pair_at-c.result + c.pair_at-m.result + c.pair_at-a.result + c.pair_at-v.result)) c.pair_at-c.result in
     let first-is : first ≡ extent_of Context (layout_of (bytes)) = first-same c.pair_at-c.ensures.number c.pair_at-m.ensures.number c.pair_at-a.ensures.number c.pair_at-v.ensures.number in
-    let second_is : c.following-mappings.result ≡ extent_of Mapping (layout_of (bytes)) = next_is bytes first-is c.end_of_lem.ensures c.pair_at-m.ensures.number c.following-mappings.ensures in
+    let second_is : c.following-mappings.result ≡ extent_of Mapping (layout_of (bytes)) = next_is bytes first-is c.end_of.ensures c.pair_at-m.ensures.number c.following-mappings.ensures in
     let third-is : c.following-accesses.result ≡ extent_of Access (layout_of (bytes)) = next_is bytes second_is c.end_of-2.ensures c.pair_at-a.ensures.number c.following-accesses.ensures in
-    let lengths-end : (t : Table) {x : Extent} → x ≡ extent_of t (layout_of (bytes)) → x.lengths + 2 * x.count ≤ header + 2 * most_rows = λ t e. let w = bytes in rw e (laid-lengths w (count 0 w) (count 1 w) (count 2 w) (count 3 w) (sound-few w c.requires) t) in
-    lengths-end Access third-is
+    let lengths-end : (t : Table) (x : Extent) → x ≡ extent_of t (layout_of (bytes)) → x.lengths + 2 * x.count ≤ header + 2 * most_rows = λ t x e. let w = bytes in rw e (laid-lengths w (count 0 w) (count 1 w) (count 2 w) (count 3 w) (sound-few w c.requires) t) in
+    lengths-end Access _ third-is
 
 pub returns : goal.returns
+unfolding layout_of laid_out
 returns c =
     let bytes : List ℕ = c.args.w.now in
-    let first : Extent = let c = c.pair_at-c.result in extent 8 (8 + 2 * (c + c.pair_at-m.result + c.pair_at-a.result + c.pair_at-v.result)) c in
+    let first : Extent = extent 8 (8 + 2 * (c.pair_at-c.result + c.pair_at-m.result + c.pair_at-a.result + c.pair_at-v.result)) c.pair_at-c.result in
     let first-is : first ≡ extent_of Context (layout_of (bytes)) = first-same c.pair_at-c.ensures.number c.pair_at-m.ensures.number c.pair_at-a.ensures.number c.pair_at-v.ensures.number in
-    let second_is : c.following-mappings.result ≡ extent_of Mapping (layout_of (bytes)) = next_is bytes first-is c.end_of_lem.ensures c.pair_at-m.ensures.number c.following-mappings.ensures in
+    let second_is : c.following-mappings.result ≡ extent_of Mapping (layout_of (bytes)) = next_is bytes first-is c.end_of.ensures c.pair_at-m.ensures.number c.following-mappings.ensures in
     let third-is : c.following-accesses.result ≡ extent_of Access (layout_of (bytes)) = next_is bytes second_is c.end_of-2.ensures c.pair_at-a.ensures.number c.following-accesses.ensures in
     let fourth-is : c.following-views.result ≡ extent_of View (layout_of (bytes)) = next_is bytes third-is c.end_of-3.ensures c.pair_at-v.ensures.number c.following-views.ensures in
     laid-tables (layout_of bytes) first-is second_is third-is fourth-is

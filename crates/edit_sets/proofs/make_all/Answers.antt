@@ -1,5 +1,4 @@
 use mathlib.Core.Path.{◌≡◌, refl, sym, subst, ◌∙◌}
-use mathlib.Core.Bool.{true}
 use mathlib.Core.List.{List, [], ◌∷◌}
 use Prim.Native.Nat.{ℕ, suc, ◌+◌, ◌-◌, ◌<◌}
 use native.Mathlib.Omega.{arith}
@@ -26,7 +25,7 @@ pub loop-i-init : goal.loop-i-init
 loop-i-init c =
     let a = c.args in
     let z : a.count - 0 ≡ a.count = omega arith in
-    (omega arith, refl, c.requires.sound, λ after m. subst (λ n. Makes (of_shape a.s (edits_from a.t3 a.bytes.now 0 n)) a.w.now after) z m)
+    (omega arith, refl, c.requires.sound, λ after m. subst (λ n. Makes (of_shape a.s (edits_from a.edits a.bytes.now 0 n)) a.w.now after) z m)
 
 pub bounds-edits-i : goal.bounds-edits-i
 bounds-edits-i c = omega (arith, c.loop-i-test.true, c.requires.few)
@@ -38,13 +37,13 @@ pub loop-i-preserved : goal.loop-i-preserved
 loop-i-preserved c =
     let l = c.loop-i in
     let a = c.args in
-    let e = edit_in (place_in a.t3 l.i) a.bytes.now in
+    let e = edit_in (place_in a.edits l.i) a.bytes.now in
     let w = c.make.new.w in (
       omega (arith, c.loop-i-test.true),
       c.make.auto.w ∙ l.invariant.1,
       makes-sound (of_shape a.s (e ∷ [])) l.w w c.make.ensures l.invariant.2,
       (λ after m. l.invariant.3 after
-          (makes-place a.s a.t3 a.bytes.now l.i a.count c.loop-i-test.true l.w w after c.make.ensures m)),
+          (makes-place a.s a.edits a.bytes.now l.i a.count c.loop-i-test.true l.w w after c.make.ensures m)),
     )
 
 pub shape_of-w : goal.shape_of-w
@@ -55,5 +54,5 @@ returns c =
     let l = c.loop-i in
     let a = c.args in
     l.invariant.3 l.w
-    (subst (λ es. Makes (of_shape a.s es) l.w l.w) (sym (edits-none a.t3 a.bytes.now l.i a.count (omega (arith, c.loop-i-test.false))))
+    (subst (λ es. Makes (of_shape a.s es) l.w l.w) (sym (edits-none a.edits a.bytes.now l.i a.count (omega (arith, c.loop-i-test.false))))
     (makes_none l.w))

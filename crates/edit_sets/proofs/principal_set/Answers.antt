@@ -10,7 +10,7 @@ use Rattle.image_layout.specs.Layout.{layout_of}
 use Rattle.image.specs.Store.{is_sound}
 use Rattle.image.proofs.Surveys.{store_laid, store-bad}
 use Rattle.edit_rules.specs.Edits.{Caller, caller_of, legal_caller}
-use Rattle.edit_rows.proofs.Stores.{not_done, sound-laid}
+use Rattle.edit_rows.proofs.Stores.{sound-laid}
 use Rattle.set_rules.specs.Sets.{most_edits, is_set}
 use Rattle.set_rules.specs.Handed.{edits_of}
 use Rattle.set_rules.specs.Made.{of_shape}
@@ -30,7 +30,7 @@ returns-in_default c =
 pub returns-then-not-is_set : goal.returns-then-not-is_set
 returns-then-not-is_set c =
     let caller : Caller = caller_of c.args.security_model c.args.security_name.now c.args.security_level in
-    let handed-bytes : Octets c.args.bytes.now = λ i. omega (arith, c.shared-slice-known2.given i) in
+    let handed-bytes : Octets c.args.bytes.now = λ i. omega (arith, c.type_inv.bytes i) in
     let laid : let w = c.args.store.now in (is_sound w ≡ true) × (c.in-Laid.l ≡ layout_of w) = store_laid c.args.store.now (sym c.in-Laid.is ∙ c.survey_store-surveyed.ensures) in
     let a = c.args in
     sets.no-set caller a.set a.bytes.now handed-bytes a.store.now (laid).0
@@ -39,7 +39,7 @@ returns-then-not-is_set c =
 pub returns-then-not-is_caller : goal.returns-then-not-is_caller
 returns-then-not-is_caller c =
     let caller : Caller = caller_of c.args.security_model c.args.security_name.now c.args.security_level in
-    let handed-bytes : Octets c.args.bytes.now = λ i. omega (arith, c.shared-slice-known2.given i) in
+    let handed-bytes : Octets c.args.bytes.now = λ i. omega (arith, c.type_inv.bytes i) in
     let laid : let w = c.args.store.now in (is_sound w ≡ true) × (c.in-Laid.l ≡ layout_of w) = store_laid c.args.store.now (sym c.in-Laid.is ∙ c.survey_store-surveyed.ensures) in
     let is-a-set : let a = c.args in is_set (edits_of a.set a.bytes.now) ≡ true = sym c.is_set.ensures ∙ c.if-not-is_set.false in
     let a = c.args in
@@ -55,26 +55,26 @@ pub judge_edits-judged-requires : goal.judge_edits-judged-requires
 judge_edits-judged-requires c =
     let laid : let w = c.args.store.now in (is_sound w ≡ true) × (c.in-Laid.l ≡ layout_of w) = store_laid c.args.store.now (sym c.in-Laid.is ∙ c.survey_store-surveyed.ensures) in
     let caller : Caller = caller_of c.args.security_model c.args.security_name.now c.args.security_level in
-    let handed-bytes : Octets c.args.bytes.now = λ i. omega (arith, c.shared-slice-known2.given i) in
+    let handed-bytes : Octets c.args.bytes.now = λ i. omega (arith, c.type_inv.bytes i) in
     let is-a-set : let a = c.args in is_set (edits_of a.set a.bytes.now) ≡ true = sym c.is_set.ensures ∙ c.if-not-is_set.false in
     let few-at : c.args.set.count ≤ most_edits = let a = c.args in sets.few caller a.set a.bytes.now handed-bytes a.store.now (laid).0 is-a-set in
-    record { few = few-at; judging = record { sound = (laid).0; laid = (laid).1; stands = c.standing-of.ensures.lies } }
+    record { few = few-at; judging = record { sound = (laid).0; laid = (laid).1; stands = c.standing_of-standing.ensures.lies } }
 
 pub returns-in_default-answer : goal.returns-in_default-answer
 returns-in_default-answer c =
     let caller : Caller = caller_of c.args.security_model c.args.security_name.now c.args.security_level in
-    let handed-bytes : Octets c.args.bytes.now = λ i. omega (arith, c.shared-slice-known2.given i) in
+    let handed-bytes : Octets c.args.bytes.now = λ i. omega (arith, c.type_inv.bytes i) in
     let laid : let w = c.args.store.now in (is_sound w ≡ true) × (c.in-Laid.l ≡ layout_of w) = store_laid c.args.store.now (sym c.in-Laid.is ∙ c.survey_store-surveyed.ensures) in
     let is-a-set : let a = c.args in is_set (edits_of a.set a.bytes.now) ≡ true = sym c.is_set.ensures ∙ c.if-not-is_set.false in
     let is-legal : legal_caller (caller) ≡ true = sym c.is_caller.ensures ∙ c.if-not-is_caller.false in
     let a = c.args in
     sets.refused caller a.set a.bytes.now handed-bytes a.store.now (laid).0 is-a-set is-legal (laid).1
-    c.standing_of-standing.ensures c.judge_edits-judged.ensures (not_done _ c.in_default-answer.in_default-answer-own.keys2)
+    c.standing_of-standing.ensures c.judge_edits-judged.ensures c.in_default-answer.not-Done
 
 pub judge_room-room-requires : goal.judge_room-room-requires
 judge_room-room-requires c =
     let caller : Caller = caller_of c.args.security_model c.args.security_name.now c.args.security_level in
-    let handed-bytes : Octets c.args.bytes.now = λ i. omega (arith, c.shared-slice-known2.given i) in
+    let handed-bytes : Octets c.args.bytes.now = λ i. omega (arith, c.type_inv.bytes i) in
     let laid : let w = c.args.store.now in (is_sound w ≡ true) × (c.in-Laid.l ≡ layout_of w) = store_laid c.args.store.now (sym c.in-Laid.is ∙ c.survey_store-surveyed.ensures) in
     let is-a-set : let a = c.args in is_set (edits_of a.set a.bytes.now) ≡ true = sym c.is_set.ensures ∙ c.if-not-is_set.false in
     let is-legal : legal_caller (caller) ≡ true = sym c.is_caller.ensures ∙ c.if-not-is_caller.false in
@@ -85,33 +85,37 @@ judge_room-room-requires c =
 pub returns-in_default-full : goal.returns-in_default-full
 returns-in_default-full c =
     let caller : Caller = caller_of c.args.security_model c.args.security_name.now c.args.security_level in
-    let handed-bytes : Octets c.args.bytes.now = λ i. omega (arith, c.shared-slice-known2.given i) in
+    let handed-bytes : Octets c.args.bytes.now = λ i. omega (arith, c.type_inv.bytes i) in
     let laid : let w = c.args.store.now in (is_sound w ≡ true) × (c.in-Laid.l ≡ layout_of w) = store_laid c.args.store.now (sym c.in-Laid.is ∙ c.survey_store-surveyed.ensures) in
     let is-a-set : let a = c.args in is_set (edits_of a.set a.bytes.now) ≡ true = sym c.is_set.ensures ∙ c.if-not-is_set.false in
     let is-legal : legal_caller (caller) ≡ true = sym c.is_caller.ensures ∙ c.if-not-is_caller.false in
     let a = c.args in
     sets.full caller a.set a.bytes.now handed-bytes a.store.now (laid).0 is-a-set is-legal (laid).1
-    c.standing_of-standing.ensures c.judge_edits-judged.ensures c.in-Done.is c.judge_room-room.ensures (not_done _ c.in_default-full.in_default-full-own.keys2)
+    c.standing_of-standing.ensures c.judge_edits-judged.ensures c.in-Done.is c.judge_room-room.ensures c.in_default-full.not-Done
 
 pub make_all-requires : goal.make_all-requires
 make_all-requires c =
     let laid : let w = c.args.store.now in (is_sound w ≡ true) × (c.in-Laid.l ≡ layout_of w) = store_laid c.args.store.now (sym c.in-Laid.is ∙ c.survey_store-surveyed.ensures) in
     let caller : Caller = caller_of c.args.security_model c.args.security_name.now c.args.security_level in
-    let handed-bytes : Octets c.args.bytes.now = λ i. omega (arith, c.shared-slice-known2.given i) in
+    let handed-bytes : Octets c.args.bytes.now = λ i. omega (arith, c.type_inv.bytes i) in
     let is-a-set : let a = c.args in is_set (edits_of a.set a.bytes.now) ≡ true = sym c.is_set.ensures ∙ c.if-not-is_set.false in
     let few-at : c.args.set.count ≤ most_edits = let a = c.args in sets.few caller a.set a.bytes.now handed-bytes a.store.now (laid).0 is-a-set in
     record { few = few-at; sound = (laid).0 }
 
 pub make_all-requires-2 : goal.make_all-requires-2
 make_all-requires-2 c =
-    let r = make-all-requires c c.make_all.lifetimes in
+    let laid : let w = c.args.store.now in (is_sound w ≡ true) × (c.in-Laid.l ≡ layout_of w) = store_laid c.args.store.now (sym c.in-Laid.is ∙ c.survey_store-surveyed.ensures) in
+    let caller : Caller = caller_of c.args.security_model c.args.security_name.now c.args.security_level in
+    let handed-bytes : Octets c.args.bytes.now = λ i. omega (arith, c.type_inv.bytes i) in
+    let is-a-set : let a = c.args in is_set (edits_of a.set a.bytes.now) ≡ true = sym c.is_set.ensures ∙ c.if-not-is_set.false in
+    let few-at : c.args.set.count ≤ most_edits = let a = c.args in sets.few caller a.set a.bytes.now handed-bytes a.store.now (laid).0 is-a-set in
     let a = c.args in
-    record { few = r.0; sound = makes-sound (of_shape Key (edits_of a.set a.bytes.now)) a.store.now _ c.make_all.ensures r.1 }
+    record { few = few-at; sound = makes-sound (of_shape Key (edits_of a.set a.bytes.now)) a.store.now _ c.make_all.ensures laid.0 }
 
 pub returns : goal.returns
 returns c =
     let caller : Caller = caller_of c.args.security_model c.args.security_name.now c.args.security_level in
-    let handed-bytes : Octets c.args.bytes.now = λ i. omega (arith, c.shared-slice-known2.given i) in
+    let handed-bytes : Octets c.args.bytes.now = λ i. omega (arith, c.type_inv.bytes i) in
     let laid : let w = c.args.store.now in (is_sound w ≡ true) × (c.in-Laid.l ≡ layout_of w) = store_laid c.args.store.now (sym c.in-Laid.is ∙ c.survey_store-surveyed.ensures) in
     let is-a-set : let a = c.args in is_set (edits_of a.set a.bytes.now) ≡ true = sym c.is_set.ensures ∙ c.if-not-is_set.false in
     let is-legal : legal_caller (caller) ≡ true = sym c.is_caller.ensures ∙ c.if-not-is_caller.false in

@@ -83,6 +83,6 @@ returns c =
     let model : Reads Number c.in-At.m c.in-At.name_at c.args.at c.args.line.now c.field.new.bytes c.field.new.parts = field-reads Number c.requires c.field.ensures.lays c.in-At.is c.field.ensures.finds c.field.auto.bytes c.field.auto.parts in
     let name : Reads Name c.in-At-field.name c.in-At-field.level_at c.in-At.name_at c.args.line.now c.field-2.new.bytes c.field-2.new.parts = field-reads Name (model).lent c.field-2.ensures.lays c.in-At-field.is c.field-2.ensures.finds c.field-2.auto.bytes c.field-2.auto.parts in
     let level : Reads Number c.in-At-field-2.l c.in-At-field-2.next c.in-At-field.level_at c.args.line.now c.field-3.new.bytes c.field-3.new.parts = field-reads Number (name).lent c.field-3.ensures.lays c.in-At-field-2.is c.field-3.ensures.finds c.field-3.auto.bytes c.field-3.auto.parts in
-    let model-into : let s = c.args in fields_into caller_kinds s.line.now (words_from s.at s.line.now) (buffers s.bytes.now s.parts.now) ≡ fields_into (Name ∷ Number ∷ []) s.line.now (words_from c.in-At.name_at s.line.now) (buffers c.field.new.bytes c.field.new.parts) = into_next Number _ c.args.at c.args.line.now c.requires.at_in _ c.field.ensures.lays (model).said in
-    let name-into : let s = c.args in fields_into caller_kinds s.line.now (words_from s.at s.line.now) (buffers s.bytes.now s.parts.now) ≡ fields_into (Number ∷ []) s.line.now (words_from c.in-At-field.level_at s.line.now) (buffers c.field-2.new.bytes c.field-2.new.parts) = model-into ∙ into_next Name _ _ _ (model).lent.at_in _ c.field-2.ensures.lays (name).said in
+    let model-into : let s = c.args in fields_into caller_kinds s.line.now (words_from s.at s.line.now) (buffers s.bytes.now s.parts.now) ≡ fields_into (Name ∷ Number ∷ []) s.line.now (words_from c.in-At.name_at s.line.now) (buffers c.field.new.bytes c.field.new.parts) = into_next Number (Name ∷ Number ∷ []) c.args.at c.args.line.now c.requires.at_in _ c.field.ensures.lays (model).said in
+    let name-into : let s = c.args in fields_into caller_kinds s.line.now (words_from s.at s.line.now) (buffers s.bytes.now s.parts.now) ≡ fields_into (Number ∷ []) s.line.now (words_from c.in-At-field.level_at s.line.now) (buffers c.field-2.new.bytes c.field-2.new.parts) = model-into ∙ into_next Name (Number ∷ []) _ _ (model).lent.at_in _ c.field-2.ensures.lays (name).said in
     record { calls = called model name level (ap (λ u. u.bytes) c.field-3.ensures.lays) c.number_in-model.ensures c.number_in-level.ensures; lays = sym (name-into ∙ into_next Number [] _ _ (name).lent.at_in _ c.field-3.ensures.lays (level).said) }

@@ -1,6 +1,6 @@
 use mathlib.Core.List.{List}
 use mathlib.Core.Path.{◌≡◌, refl, ◌∙◌}
-use Prim.Native.Nat.{ℕ, ◌-◌, ◌*◌}
+use Prim.Native.Nat.{ℕ, ◌*◌}
 use native.Mathlib.Omega.{arith}
 use lib.ListN.{length, take}
 use Rattle.text_words.specs.Words.{words_from}
@@ -43,15 +43,15 @@ returns-in_default c =
     let parts-of : List ℕ = c.field.new.parts in
     let into : let l = c.loop-e in field_into Edit c.args.line.now (words_from l.next c.args.line.now) (buffers l.bytes l.parts) ≡ buffers (bytes_of) (parts-of) = field-into Edit c.loop-e.invariant.0.lent c.field.ensures.lays in
     let stays : let l = c.loop-e in take (4 * l.next) (bytes_of) ≡ take (4 * l.next) l.bytes = edit-kept c.loop-e.invariant.0.lent c.field.ensures.lays in
-    let kept : let s = c.args in take (4 * s.at) (bytes_of) ≡ take (4 * s.at) s.bytes.now = let l = c.loop-e in let s = c.args in front-on (4 * s.at) (4 * l.next) l.bytes bytes_of (omega (arith, l.inv.3)) stays ∙ l.inv.4 in
+    let kept : let s = c.args in take (4 * s.at) (bytes_of) ≡ take (4 * s.at) s.bytes.now = let l = c.loop-e in let s = c.args in front-on (4 * s.at) (4 * l.next) l.bytes bytes_of (omega (arith, l.invariant.3)) stays ∙ l.invariant.4 in
     let y = c.loop-e.invariant.0 in
     let e = field-none _ _ _ c.in_default.is c.field.ensures.finds in
     record { reads = reads-not _ (way-bad y e); lays = bad-left y into e; keeps = kept }
 
 pub with_edit-set-requires : goal.with_edit-set-requires
 with_edit-set-requires c =
-    way-room c.loop-e.inv.0
-    -- labels: room, few
+    let r = way-room c.loop-e.invariant.0 in
+    record { room = r.0; few = r.1 }
 
 pub shape_of-bytes-in-Nothing : goal.shape_of-bytes-in-Nothing
 shape_of-bytes-in-Nothing c =
@@ -70,10 +70,10 @@ returns-in-Nothing c =
     let bytes_of : List ℕ = c.field.new.bytes in
     let parts-of : List ℕ = c.field.new.parts in
     let into : let l = c.loop-e in field_into Edit c.args.line.now (words_from l.next c.args.line.now) (buffers l.bytes l.parts) ≡ buffers (bytes_of) (parts-of) = field-into Edit c.loop-e.invariant.0.lent c.field.ensures.lays in
-    let found : Reads Edit c.in-At.e c.in-At.end c.loop-e.next c.args.line.now (bytes_of) (parts-of) = field-reads Edit c.loop-e.inv.0.lent c.field.ensures.lays c.in-At.is c.field.ensures.finds c.field.auto.bytes c.field.auto.parts in
+    let found : Reads Edit c.in-At.e c.in-At.end c.loop-e.next c.args.line.now (bytes_of) (parts-of) = field-reads Edit c.loop-e.invariant.0.lent c.field.ensures.lays c.in-At.is c.field.ensures.finds c.field.auto.bytes c.field.auto.parts in
     let stays : let l = c.loop-e in take (4 * l.next) (bytes_of) ≡ take (4 * l.next) l.bytes = edit-kept c.loop-e.invariant.0.lent c.field.ensures.lays in
-    let passed : let s = c.args in let ws = words_from s.at s.line.now in Passed (edits_said ws) (edits_into s.line.now ws (buffers s.bytes.now s.parts.now)) s.line.now c.with_edit-set.result (bytes_of) (parts-of) c.in-At.end = passed-as c.with_edit-set.ensures (way-edit c.loop-e.inv.0 into found stays) in
-    let kept : let s = c.args in take (4 * s.at) (bytes_of) ≡ take (4 * s.at) s.bytes.now = let l = c.loop-e in let s = c.args in front-on (4 * s.at) (4 * l.next) l.bytes bytes_of (omega (arith, l.inv.3)) stays ∙ l.inv.4 in
+    let passed : let s = c.args in let ws = words_from s.at s.line.now in Passed (edits_said ws) (edits_into s.line.now ws (buffers s.bytes.now s.parts.now)) s.line.now c.with_edit-set.result (bytes_of) (parts-of) c.in-At.end = passed-as c.with_edit-set.ensures (way-edit c.loop-e.invariant.0 into found stays) in
+    let kept : let s = c.args in take (4 * s.at) (bytes_of) ≡ take (4 * s.at) s.bytes.now = let l = c.loop-e in let s = c.args in front-on (4 * s.at) (4 * l.next) l.bytes bytes_of (omega (arith, l.invariant.3)) stays ∙ l.invariant.4 in
     let p = passed in
     let e = behind-none _ _ c.in-Nothing.is c.behind_edit.ensures in
     record { reads = reads_whole _ (passed-all p e); lays = all_left p e; keeps = kept }
@@ -83,7 +83,7 @@ loop-e-smaller c =
     let next-at : Parted c.in-Edit.n c.in-At.end c.args.line.now = behind_more _ _ c.in-Edit.is c.behind_edit.ensures in
     let bytes_of : List ℕ = c.field.new.bytes in
     let parts-of : List ℕ = c.field.new.parts in
-    let found : Reads Edit c.in-At.e c.in-At.end c.loop-e.next c.args.line.now (bytes_of) (parts-of) = field-reads Edit c.loop-e.inv.0.lent c.field.ensures.lays c.in-At.is c.field.ensures.finds c.field.auto.bytes c.field.auto.parts in
+    let found : Reads Edit c.in-At.e c.in-At.end c.loop-e.next c.args.line.now (bytes_of) (parts-of) = field-reads Edit c.loop-e.invariant.0.lent c.field.ensures.lays c.in-At.is c.field.ensures.finds c.field.auto.bytes c.field.auto.parts in
     omega (arith, (next-at).forward, (next-at).next_in, (found).forward)
 
 pub loop-e-preserved : goal.loop-e-preserved
@@ -91,18 +91,17 @@ loop-e-preserved c =
     let bytes_of : List ℕ = c.field.new.bytes in
     let parts-of : List ℕ = c.field.new.parts in
     let into : let l = c.loop-e in field_into Edit c.args.line.now (words_from l.next c.args.line.now) (buffers l.bytes l.parts) ≡ buffers (bytes_of) (parts-of) = field-into Edit c.loop-e.invariant.0.lent c.field.ensures.lays in
-    let found : Reads Edit c.in-At.e c.in-At.end c.loop-e.next c.args.line.now (bytes_of) (parts-of) = field-reads Edit c.loop-e.inv.0.lent c.field.ensures.lays c.in-At.is c.field.ensures.finds c.field.auto.bytes c.field.auto.parts in
+    let found : Reads Edit c.in-At.e c.in-At.end c.loop-e.next c.args.line.now (bytes_of) (parts-of) = field-reads Edit c.loop-e.invariant.0.lent c.field.ensures.lays c.in-At.is c.field.ensures.finds c.field.auto.bytes c.field.auto.parts in
     let stays : let l = c.loop-e in take (4 * l.next) (bytes_of) ≡ take (4 * l.next) l.bytes = edit-kept c.loop-e.invariant.0.lent c.field.ensures.lays in
-    let passed : let s = c.args in let ws = words_from s.at s.line.now in Passed (edits_said ws) (edits_into s.line.now ws (buffers s.bytes.now s.parts.now)) s.line.now c.with_edit-set.result (bytes_of) (parts-of) c.in-At.end = passed-as c.with_edit-set.ensures (way-edit c.loop-e.inv.0 into found stays) in
+    let passed : let s = c.args in let ws = words_from s.at s.line.now in Passed (edits_said ws) (edits_into s.line.now ws (buffers s.bytes.now s.parts.now)) s.line.now c.with_edit-set.result (bytes_of) (parts-of) c.in-At.end = passed-as c.with_edit-set.ensures (way-edit c.loop-e.invariant.0 into found stays) in
     let next-at : Parted c.in-Edit.n c.in-At.end c.args.line.now = behind_more _ _ c.in-Edit.is c.behind_edit.ensures in
     let bytes_same : length (bytes_of) ≡ length c.args.bytes.now = c.field.auto.bytes ∙ c.loop-e.invariant.1 in
     let parts_same : length (parts-of) ≡ length c.args.parts.now = c.field.auto.parts ∙ c.loop-e.invariant.2 in
-    let kept : let s = c.args in take (4 * s.at) (bytes_of) ≡ take (4 * s.at) s.bytes.now = let l = c.loop-e in let s = c.args in front-on (4 * s.at) (4 * l.next) l.bytes bytes_of (omega (arith, l.inv.3)) stays ∙ l.inv.4 in
-    (
+    let kept : let s = c.args in take (4 * s.at) (bytes_of) ≡ take (4 * s.at) s.bytes.now = let l = c.loop-e in let s = c.args in front-on (4 * s.at) (4 * l.next) l.bytes bytes_of (omega (arith, l.invariant.3)) stays ∙ l.invariant.4 in (
       passed-more passed next-at,
       bytes_same,
       parts_same,
-      omega (arith, (next-at).forward, (found).forward, c.loop-e.inv.3),
+      omega (arith, (next-at).forward, (found).forward, c.loop-e.invariant.3),
       kept,
     )
 
@@ -123,10 +122,10 @@ returns-in-Malformed c =
     let bytes_of : List ℕ = c.field.new.bytes in
     let parts-of : List ℕ = c.field.new.parts in
     let into : let l = c.loop-e in field_into Edit c.args.line.now (words_from l.next c.args.line.now) (buffers l.bytes l.parts) ≡ buffers (bytes_of) (parts-of) = field-into Edit c.loop-e.invariant.0.lent c.field.ensures.lays in
-    let found : Reads Edit c.in-At.e c.in-At.end c.loop-e.next c.args.line.now (bytes_of) (parts-of) = field-reads Edit c.loop-e.inv.0.lent c.field.ensures.lays c.in-At.is c.field.ensures.finds c.field.auto.bytes c.field.auto.parts in
+    let found : Reads Edit c.in-At.e c.in-At.end c.loop-e.next c.args.line.now (bytes_of) (parts-of) = field-reads Edit c.loop-e.invariant.0.lent c.field.ensures.lays c.in-At.is c.field.ensures.finds c.field.auto.bytes c.field.auto.parts in
     let stays : let l = c.loop-e in take (4 * l.next) (bytes_of) ≡ take (4 * l.next) l.bytes = edit-kept c.loop-e.invariant.0.lent c.field.ensures.lays in
-    let passed : let s = c.args in let ws = words_from s.at s.line.now in Passed (edits_said ws) (edits_into s.line.now ws (buffers s.bytes.now s.parts.now)) s.line.now c.with_edit-set.result (bytes_of) (parts-of) c.in-At.end = passed-as c.with_edit-set.ensures (way-edit c.loop-e.inv.0 into found stays) in
-    let kept : let s = c.args in take (4 * s.at) (bytes_of) ≡ take (4 * s.at) s.bytes.now = let l = c.loop-e in let s = c.args in front-on (4 * s.at) (4 * l.next) l.bytes bytes_of (omega (arith, l.inv.3)) stays ∙ l.inv.4 in
+    let passed : let s = c.args in let ws = words_from s.at s.line.now in Passed (edits_said ws) (edits_into s.line.now ws (buffers s.bytes.now s.parts.now)) s.line.now c.with_edit-set.result (bytes_of) (parts-of) c.in-At.end = passed-as c.with_edit-set.ensures (way-edit c.loop-e.invariant.0 into found stays) in
+    let kept : let s = c.args in take (4 * s.at) (bytes_of) ≡ take (4 * s.at) s.bytes.now = let l = c.loop-e in let s = c.args in front-on (4 * s.at) (4 * l.next) l.bytes bytes_of (omega (arith, l.invariant.3)) stays ∙ l.invariant.4 in
     let p = passed in
     let o = behind-over _ _ c.in-Malformed.is c.behind_edit.ensures in
     record { reads = reads-not _ (passed_over p o); lays = over-left p o; keeps = kept }

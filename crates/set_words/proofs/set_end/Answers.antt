@@ -10,10 +10,10 @@ returns-then-line-gt-LONGEST_LINE c = set_long _ c.if-line-gt-LONGEST_LINE.true
 
 pub returns-then-are_same : goal.returns-then-are_same
 returns-then-are_same c =
-    let first : WordAt 0 c.args.line.now c.end_of_lem.result = word-from _ _ _ (omega arith) c.end_of_lem.ensures in
-    set-begun first c.if1.false (sym c.are_same.ensures ∙ c.if-are_same.true)
+    let first : WordAt 0 c.args.line.now c.end_of-end.result = word-from _ _ _ (omega arith) c.end_of-end.ensures in
+    set-begun first c.if-line-gt-LONGEST_LINE.false (sym c.are_same.ensures ∙ c.if-are_same.true)
 
 pub returns : goal.returns
 returns c =
-    let first : WordAt 0 c.args.line.now c.end_of_lem.result = word-from _ _ _ (omega arith) c.end_of_lem.ensures in
-    set_other first c.if1.false (sym c.are_same.ensures ∙ c.if-are_same.false)
+    let first : WordAt 0 c.args.line.now c.end_of-end.result = word-from _ _ _ (omega arith) c.end_of-end.ensures in
+    set_other first c.if-line-gt-LONGEST_LINE.false (sym c.are_same.ensures ∙ c.if-are_same.false)
