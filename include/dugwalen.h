@@ -1,6 +1,6 @@
 /*
  * Dugwalen's decision for an SNMPv3 agent in C: RFC 3415's isAccessAllowed over the bytes of a table image.
- * Link target/staticlib/libdugwalen.a, which `rt staticlib dugwalen` proves and writes; it needs no other library.
+ * Link target/staticlib/libdugwalen.a, which `bin/staticlib dugwalen` proves and writes; it needs no other library.
  */
 #ifndef DUGWALEN_H
 #define DUGWALEN_H

@@ -7,7 +7,7 @@
 //! `--only` measures the rows whose title has TEXT.
 
 #[cfg(not(agent_linked))]
-compile_error!("the archive libdugwalen.a is not there: build it by `rt staticlib dugwalen`, or name its folder in DUGWALEN_STATICLIB_DIR");
+compile_error!("the archive libdugwalen.a is not there: build it by `bin/staticlib dugwalen`, or name its folder in DUGWALEN_STATICLIB_DIR");
 
 use beside::handwritten;
 use beside::reference::image;
