@@ -56,13 +56,15 @@ archive() {
     cp "crates/$crate/out/lib$crate.a" "$file" || stop "no archive crates/$crate/out/lib$crate.a"
 }
 
-# program NAME: target/bin/NAME, proved and built anew where the code has changed. `rt run` builds a program and then runs it, here on no input.
+# program NAME: target/bin/NAME, proved and built anew where the code has changed. `rt ci` leaves a program that it built in its crate's out/, and
+# `rt run` builds one and then runs it, here on no input.
 program() {
-    local made=crates/$1/out/$1
+    local made=crates/$1/out/$1 file=target/bin/$1 said
+    is_old "$file" || return 0
     if is_old "$made"; then
-        (cd "crates/$1" && rt run) </dev/null >/dev/null 2>&1
-        is_old "$made" && stop "rt run fails in crates/$1; run it there to see why"
+        said=$(cd "crates/$1" && rt run 2>&1 </dev/null)
+        grep -qE '^logic=proved|nothing has changed since the last proved build' <<<"$said" || stop "rt run fails in crates/$1; run it there to see why"
     fi
     mkdir -p target/bin
-    cp "$made" "target/bin/$1" || stop "no program $made"
+    cp "$made" "$file" || stop "no program $made"
 }

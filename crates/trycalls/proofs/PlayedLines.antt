@@ -7,10 +7,12 @@ use mathlib.Core.Option.{none}
 use Prim.Native.Nat.{ℕ, ◌+◌, ◌-◌, ◌≤◌}
 use native.Mathlib.Omega.{arith}
 use lib.ListN.{length, take, length-append}
+use Rattle.std.specs.Prelude.{Option as StdOption}
 use Rattle.numbers.proofs.Bools.{clash}
 use Rattle.text_values.proofs.Puts.{front}
 use Rattle.program_io.specs.declared.Desk.{Desk}
 use Rattle.program_io.specs.Lines.{lines_of, keep, kept}
+use Rattle.program_io.specs.Outside.{Outside, outside}
 use Rattle.program_io.specs.Desk.{new_line, Taken, Opens, Writes, Refills, NextLine, LastLine}
 use Rattle.program_io.proofs.Lines.{kept-one, kept-none, kept_same}
 use Rattle.program_io.proofs.TakenLines.{taken-written, all-written}
@@ -73,16 +75,17 @@ played-kept n found after (line ∷ lines) text s =
 -- ---- the line that was found, if one was
 
 module _ (d : Desk) (line found : List ℕ) where
-  pub answers-none : d.found ≡ false → Answers d d line found found
+  pub answers-none : {held : StdOption (List ℕ)} → d.found ≡ false → Answers held held d d line found found
   answers-none f = record {
     text = [];
-    writes = record { moves = λ o {input} {text} m. rw (append-nil text) m; same = refl; stays_closed = λ o. o; closes = λ e o. clash o e };
+    writes = record { moves = λ o {from} {unread} {input} {text} m. rw (append-nil text) m; same = refl; stays_closed = λ o. o; closes = λ e o. clash o e };
     played = λ n e. rw f (played-none n found);
   }
 
-  pub answers-found : {r : Desk} {after w out : List ℕ} {end : ℕ} → d.found ≡ true
-      → PutsLine (line_asks (take (d.len - 0) line)) d.number found after w out end → Writes d r (take (end - 0) out) → Answers d r line found after
-  answers-found {r} {after} {w} {out} {end} f s h =
+  pub answers-found : {held holds : StdOption (List ℕ)} {r : Desk} {after w out : List ℕ} {end : ℕ} → d.found ≡ true
+      → PutsLine (line_asks (take (d.len - 0) line)) d.number found after w out end → Writes held holds d r (take (end - 0) out)
+      → Answers held holds d r line found after
+  answers-found {held} {holds} {r} {after} {w} {out} {end} f s h =
       let z : d.len - 0 ≡ d.len = omega arith in
       let y : end - 0 ≡ end = omega arith in
       let p : Plays (line_asks (take d.len line)) found after s.text = rw z at s.plays in
@@ -98,37 +101,40 @@ module _ (d : Desk) (line found : List ℕ) where
 
 -- ---- how far the lines are played
 
-pub record Playing (d : Desk) (piece line found after : List ℕ) : Type 0 where
+pub record Playing (from to : Outside) (d : Desk) (piece line found after : List ℕ) : Type 0 where
   pub text : List ℕ
   pub lines : List (List ℕ)
-  pub taken : Taken d piece line text lines
+  pub taken : Taken from to d piece line text lines
   pub played : Played 0 found lines text after
 
-pub playing-none : {d : Desk} → Opens d → (piece line found : List ℕ) → Playing d piece line found found
-playing-none o piece line found = record { text = []; lines = []; taken = o.taken piece line; played = played-none 0 found }
+pub playing-none : {d : Desk} → Opens d → (from : Outside) (piece line found : List ℕ) → Playing from from d piece line found found
+playing-none o from piece line found = record { text = []; lines = []; taken = o.taken from piece line; played = played-none 0 found }
 
-module _ {d : Desk} {piece line found after : List ℕ} (s : Playing d piece line found after) where
-  pub playing-refilled : {r : Desk} {piece' : List ℕ} → Refills d r piece piece' → Playing r piece' line found after
+module _ {from : Outside} {unread held : StdOption (List ℕ)} {d : Desk} {piece line found after : List ℕ}
+    (s : Playing from (outside unread held) d piece line found after) where
+  pub playing-refilled : {has : StdOption (List ℕ)} {r : Desk} {piece' : List ℕ} → Refills unread has d r piece piece'
+      → Playing from (outside has held) r piece' line found after
   playing-refilled f = record { text = s.text; lines = s.lines; taken = f.taken s.taken; played = s.played }
 
   -- the lines taken and the one that was found, played
-  found-on : {n r : Desk} {line' next : List ℕ} (a : Answers n r line' after next) → n.number ≡ length (s.lines ++ new_line n line')
+  found-on : {holds : StdOption (List ℕ)} {n r : Desk} {line' next : List ℕ} (a : Answers held holds n r line' after next) → n.number ≡ length (s.lines ++ new_line n line')
       → Played 0 found (s.lines ++ new_line n line') (s.text ++ a.text) next
-  found-on {n} {r} {line'} {next} a e =
+  found-on {holds} {n} {r} {line'} {next} a e =
       let k : n.number ≡ length s.lines + length (new_line n line') = e ∙ length-append s.lines (new_line n line') in
       played-both 0 (length s.lines) found after next s.lines (new_line n line') s.text a.text (omega arith) s.played
       (a.played (length s.lines) k)
 
   -- a line of the piece
-  pub playing-line : {n r : Desk} {line' next : List ℕ} → NextLine d n piece line line' → Answers n r line' after next → Playing r piece line' found next
+  pub playing-line : {holds : StdOption (List ℕ)} {n r : Desk} {line' next : List ℕ} → NextLine d n piece line line'
+      → Answers held holds n r line' after next → Playing from (outside unread holds) r piece line' found next
   playing-line h a =
       let x = h.taken s.taken in
       record { text = s.text ++ a.text; lines = _; taken = taken-written a.writes x; played = found-on a x.number_is }
 
   -- the last line
-  pub playing-last : {n r : Desk} {next : List ℕ} → LastLine d n → d.begun ≤ length line → d.at ≡ d.end → (d.writable ≡ true → d.reads ≡ 0)
-      → Answers n r line after next → Serves r found next
-  playing-last {n} {r} {next} h i e z a =
+  pub playing-last : {holds : StdOption (List ℕ)} {n r : Desk} {next : List ℕ} → LastLine d n → d.begun ≤ length line → d.at ≡ d.end → (d.writable ≡ true → d.reads ≡ 0)
+      → Answers held holds n r line after next → Serves from (outside unread holds) r found next
+  playing-last {holds} {n} {r} {next} h i e z a =
       let x = h.taken s.taken i e z in
       let y = all-written a.writes x in
       record {
@@ -138,5 +144,6 @@ module _ {d : Desk} {piece line found after : List ℕ} (s : Playing d piece lin
         played = λ o.
             played-kept 0 found next (lines_of y.input) (s.text ++ a.text) (rw (y.all o) (found-on a x.number_is));
         ended = y.ended;
+        read_all = y.read_all;
         closed = y.closed;
       }
