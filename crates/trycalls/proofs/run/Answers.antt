@@ -22,6 +22,7 @@ returns-in-Done g c =
     let q = done_none (image_fault w) (sym c.in-Done.is ∙ r.answer_is) in
     let z : f.result.len - 0 ≡ f.result.len = omega arith in
     let file : TablesFile (octets_of g.F.Read.remaining c.args.tables) w = rw z f.ensures.file in
+    let to = outside (g.R.Read.remaining c.serve.new.input) (g.W.Write.contents c.serve.new.output) in
     let written : c.serve.result.writable ≡ true → Written (image_fault w) w s.input s.text =
     λ o. rw q (record { store = _; after = _; holds = r.rows_are c.in-Done.is; played = s.played o }) in
     record {
@@ -33,7 +34,7 @@ returns-in-Done g c =
       written = written;
       ended = λ o n. s.ended o;
       read_all = λ o n. s.read_all o;
-      tells = λ o. tells-plays file (s.moved o) (s.read_all o) (written o);
+      tells = λ o. tells-plays {to = to} file (s.moved o) (s.read_all o) (written o);
       closed = s.closed;
     }
 
@@ -49,9 +50,8 @@ returns-in-Faulty g c =
     let t = c.start.ensures.taken from [] [] in
     let a = c.tell_refusal-end in
     let text = take (a.result - 0) a.new.out in
-    let moved : c.write.result.writable ≡ true → Moved from
-        (outside (g.R.Read.remaining c.args.input.now) (g.W.Write.contents c.write.new.output)) t.input text =
-    λ o. w.moves o (t.moved (w.stays_closed o)) in
+    let to = outside (g.R.Read.remaining c.args.input.now) (g.W.Write.contents c.write.new.output) in
+    let moved : c.write.result.writable ≡ true → Moved from to t.input text = λ o. w.moves o (t.moved (w.stays_closed o)) in
     let written : (xs : List ℕ) → Written (image_fault i) i xs text = λ xs. rw q (told-front 0 _ (omega arith) a.ensures.tells) in
     record {
       tables = i;
@@ -62,6 +62,6 @@ returns-in-Faulty g c =
       written = λ o. written t.input;
       ended = λ o n. absurd (none-ne-some _ (sym n ∙ q));
       read_all = λ o n. absurd (none-ne-some _ (sym n ∙ q));
-      tells = λ o. tells-refusal file (moved o) written;
+      tells = λ o. tells-refusal {to = to} file (moved o) written;
       closed = still-closed w t.closed;
     }

@@ -23,8 +23,9 @@ returns-in-Laid g c =
     let q = sym c.in-Laid.is ∙ c.survey_image.ensures in
     let z : f.result.len - 0 ≡ f.result.len = omega arith in
     let file : TablesFile (octets_of g.F.Read.remaining c.args.tables) w = rw z f.ensures.file in
-    let moved : c.serve.result.writable ≡ true → Moved (outside (g.R.Read.remaining c.args.input.now) (g.W.Write.contents c.args.output.now))
-    (outside (g.R.Read.remaining c.serve.new.input) (g.W.Write.contents c.serve.new.output)) s.input (written w s.input) =
+    let from = outside (g.R.Read.remaining c.args.input.now) (g.W.Write.contents c.args.output.now) in
+    let to = outside (g.R.Read.remaining c.serve.new.input) (g.W.Write.contents c.serve.new.output) in
+    let moved : c.serve.result.writable ≡ true → Moved from to s.input (written w s.input) =
     λ o. rw (written-laid w s.input q) (s.moved o) in
     record {
       tables = w;
@@ -33,7 +34,7 @@ returns-in-Laid g c =
       moved = moved;
       ended = λ o n. s.ended o;
       read_all = λ o n. s.read_all o;
-      tells = λ o. tells-answers file (moved o) (s.read_all o);
+      tells = λ o. tells-answers {to = to} file (moved o) (s.read_all o);
       closed = s.closed;
     }
 
@@ -48,8 +49,8 @@ returns-in-Bad g c =
     let from = outside (g.R.Read.remaining c.args.input.now) (g.W.Write.contents c.args.output.now) in
     let t = c.start.ensures.taken from [] [] in
     let told_is = told-front 0 _ (omega arith) c.tell_refusal-end.ensures.tells in
-    let moved : c.write.result.writable ≡ true → Moved from
-    (outside (g.R.Read.remaining c.args.input.now) (g.W.Write.contents c.write.new.output)) t.input (written v t.input) =
+    let to = outside (g.R.Read.remaining c.args.input.now) (g.W.Write.contents c.write.new.output) in
+    let moved : c.write.result.writable ≡ true → Moved from to t.input (written v t.input) =
     λ o. rw (written-bad v q t.input ∙ sym told_is) (w.moves o (t.moved (w.stays_closed o))) in
     record {
       tables = v;
@@ -58,6 +59,6 @@ returns-in-Bad g c =
       moved = moved;
       ended = λ o n. absurd (none-ne-some _ (sym n ∙ image-bad v q));
       read_all = λ o n. absurd (none-ne-some _ (sym n ∙ image-bad v q));
-      tells = λ o. tells-refusal file (moved o) (λ xs. written-bad v q t.input ∙ sym (written-bad v q xs));
+      tells = λ o. tells-refusal {to = to} file (moved o) (λ xs. written-bad v q t.input ∙ sym (written-bad v q xs));
       closed = still-closed w t.closed;
     }
