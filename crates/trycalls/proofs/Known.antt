@@ -1,13 +1,12 @@
 -- Where it is known what the file has and the input has left, it is known what is written: what was read is that, unless a read failed or the input is longer
 -- than all reads. Assumes nothing.
-use Rattle.std.proofs.Common.{◌≡◌, ℕ, ◌+◌, ◌<◌, List, ◌++◌, None, Some, IfSome, length, take, subst}
-use Rattle.std.specs.Prelude.{◌⊎◌}
+use Rattle.std.proofs.Common.{◌≡◌, ℕ, ◌+◌, ◌<◌, List, None, Some, IfSome, length, take, subst}
 use Rattle.std.specs.Prelude.{Option as StdOption}
 use mathlib.Core.Logic.{⊎_elim, inl, inr}
 use Rattle.std.specs.Io.KnownBytes.{Appends}
 use Rattle.image.specs.Image.{image_fault}
 use Rattle.image.specs.Store.{room as largest}
-use Rattle.program_io.specs.Outside.{Outside, InputFailed}
+use Rattle.program_io.specs.Outside.{Outside}
 use Rattle.program_io.specs.Files.{TablesFile}
 use Rattle.program_io.specs.Desk.{Moved, ReadToEnd, most_reads}
 use Rattle.program_io.proofs.Moved.{moved-held, input-known, tables-known}

@@ -59,7 +59,7 @@ abbrev pub Tells : StdOption (List ℕ) → (from to : Outside) → Type 0
 Tells known from to =
     InputFailed
     ⊎ IfSome known (λ file.
-        IfSome from.unread (λ input. length input < most_reads → WritesBehind from.held to.held (take (largest + 1) file) input))
+    IfSome from.unread (λ input. length input < most_reads → WritesBehind from.held to.held (take (largest + 1) file) input))
 
 -- A run: of the file `tables.bin` and of standard input. Where standard output took what was written, that is what is to be written for the two, and the
 -- input was read to its end, unless the tables are refused. It took less only where a write failed. `known` is what the file is known to have, and the

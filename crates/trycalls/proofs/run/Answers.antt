@@ -1,6 +1,6 @@
 -- `trycalls::run` meets its contract: a store that was read is sound, so it has its size and the lines are played on it; of tables that are refused the
 -- fault is told. Assumes nothing.
-use Rattle.std.proofs.Common.{◌≡◌, ◌-◌, true, ℕ, List, [], take, refl, sym, ap, ◌∙◌, arith}
+use Rattle.std.proofs.Common.{◌≡◌, ◌-◌, true, ℕ, List, [], take, sym, ◌∙◌, arith}
 use mathlib.Core.Option.{none-ne-some}
 use Rattle.image.specs.Image.{image_fault}
 use Rattle.program_io.specs.Outside.{outside}
@@ -9,7 +9,7 @@ use Rattle.program_io.specs.Desk.{Moved}
 use Rattle.program_io.proofs.TakenLines.{still-closed}
 use Rattle.request_lines.proofs.Told.{told-front}
 use Rattle.trycalls.specs.Runs.{Written}
-use Rattle.trycalls.proofs.Sizes.{held-size, done_none, faulty-some}
+use Rattle.trycalls.proofs.Sizes.{done_none, faulty-some}
 use Rattle.trycalls.proofs.Known.{tells-plays, tells-refusal}
 use Rattle.trycalls.proofs.run.Goals as goal
 

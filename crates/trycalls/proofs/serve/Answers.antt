@@ -1,6 +1,5 @@
 -- What the calls of a turn keep, and what is played at the input's end (`PlayedLines`). Assumes nothing.
 use Rattle.std.proofs.Common.{◌≡◌, refl, ap, ◌∙◌, arith}
-use Rattle.program_io.proofs.TakenLines.{ready-written}
 use Rattle.trycalls.proofs.PlayedLines.{playing-none, playing-refilled, playing-line, playing-last}
 use Rattle.trycalls.proofs.serve.Goals as goal
 
