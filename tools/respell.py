@@ -1,7 +1,7 @@
 #!/usr/bin/env python3
 """respell.py: brings this repository's own definitions, fields, constructors and lemmas to the spelling of today's Rattle.
 
-usage: python3 tools/respell.py          at the top, once, on what /opt/rattle/port/port.py left of commit 6f48391
+usage: python3 tools/respell.py          at the top, once, on what the kit's port.py left of commit 6f48391
 
 - A name in camel case that begins small is in snake case: `keyBytes` is `key_bytes`, `length-bytesOf` is `length-bytes_of`.
 - A field, a constructor or a definition of specs/ has no dash: `refusal-keeps` is `refusal_keeps`. Lemmas keep theirs.
