@@ -1,16 +1,14 @@
 -- Document 01's "Tally": what an answer adds to the four counts, and the number of each case of the call's answer. Assumes nothing.
 use Rattle.std.specs.Prelude.{◌≡◌, ℕ, ◌+◌, ◌%◌, ◌^◌, Bool, true, false, cond, ◌||◌, ◌==◌, nat_le}
-use Rattle.answers.specs.Numbers.{fault_number}
+use Rattle.std.specs.Prelude.{Ok, Err}
+use Rattle.answers.specs.Numbers.{result_number}
 use Rattle.answers.specs.declared.Fault.TheVariants.{OutOfRange}
 use Rattle.answers.specs.declared.Tally.{Tally}
-use Rattle.answers.specs.declared.Step.{Step}
-use Rattle.answers.specs.declared.Counted.{Counted}
-use Rattle.answers.specs.declared.Counted.TheVariants.{Done, Faulty}
+use Rattle.answers.specs.Types.{Counted}
 
 -- success is 0
 abbrev pub counted_number : Counted → ℕ
-counted_number Done = 0
-counted_number (Faulty f) = fault_number f
+counted_number c = result_number c
 
 -- one more where the test holds; a count goes from 4,294,967,295 to 0
 abbrev pub plus : Bool → ℕ → ℕ
@@ -28,14 +26,10 @@ counted t answer = record {
 
 -- an answer above 31 is 7
 abbrev pub judged : ℕ → Counted
-judged answer = cond (nat_le answer 31) Done (Faulty OutOfRange)
+judged answer = cond (nat_le answer 31) (Ok tt) (Err OutOfRange)
 
 -- an answer counted into the tally `found`, which is `after` then
 pub record Counts (found : Tally) (answer : ℕ) (after : Tally) (r : Counted) : Type 0 where
   pub tally_is : after ≡ counted found answer
   pub answer_is : r ≡ judged answer
   pub number_is : counted_number r ≡ counted_number (judged answer)
-
--- the tally and the call's answer together
-abbrev pub step_of : Tally → ℕ → Step
-step_of t answer = record { tally = counted t answer; answer = judged answer }

@@ -1,16 +1,14 @@
 -- Document 01's number for each case of an answer ("Where each number is met"). Assumes nothing.
-use Rattle.std.specs.Prelude.{ℕ}
+use Rattle.std.specs.Prelude.{ℕ, Result}
+use Rattle.std.specs.Prelude.{Ok, Err}
 use Rattle.answers.specs.declared.Cause.{Cause}
 use Rattle.answers.specs.declared.Cause.TheVariants.{NoSuchContext, NoGroupName, NoAccessEntry, NoSuchView, NotInView}
-use Rattle.answers.specs.declared.Decision.{Decision}
-use Rattle.answers.specs.declared.Decision.TheVariants.{Allowed, Refused}
+use Rattle.answers.specs.Types.{Decision}
 use Rattle.answers.specs.declared.Fault.{Fault}
 use Rattle.answers.specs.declared.Fault.TheVariants.{NotSound, OutOfRange, TableFull, RowAbsent, StorageForbids, ContextTable, NotAnInstance, Torn}
 use Rattle.answers.specs.declared.Fault.TheVariants.{NotAscending, TooShort, RowHeld, NotASet}
-use Rattle.answers.specs.declared.Answer.{Answer}
-use Rattle.answers.specs.declared.Answer.TheVariants.{Decided, Faulty}
-use Rattle.answers.specs.declared.Written.{Written}
-use Rattle.answers.specs.declared.Written.TheVariants.{Length, Unwritten}
+use Rattle.answers.specs.Types.{Answer}
+use Rattle.answers.specs.Types.{Written}
 
 -- the five causes of RFC 3415, section 3.2
 abbrev pub cause_number : Cause → ℕ
@@ -22,8 +20,8 @@ cause_number NotInView = 5
 
 -- success is 0
 abbrev pub decision_number : Decision → ℕ
-decision_number Allowed = 0
-decision_number (Refused c) = cause_number c
+decision_number (Ok tt) = 0
+decision_number (Err c) = cause_number c
 
 abbrev pub fault_number : Fault → ℕ
 fault_number NotSound = 6
@@ -40,10 +38,14 @@ fault_number RowHeld = 18
 fault_number NotASet = 19
 
 abbrev pub answer_number : Answer → ℕ
-answer_number (Decided d) = decision_number d
-answer_number (Faulty f) = fault_number f
+answer_number (Ok d) = decision_number d
+answer_number (Err f) = fault_number f
 
--- a writer's success is 0, and carries the length
+-- success is 0, whatever it hands back
+abbrev pub result_number : {T : Type 0} → Result T Fault → ℕ
+result_number (Ok x) = 0
+result_number (Err f) = fault_number f
+
+-- a writer's success carries the length
 abbrev pub written_number : Written → ℕ
-written_number (Length n) = 0
-written_number (Unwritten f) = fault_number f
+written_number w = result_number w

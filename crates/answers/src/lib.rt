@@ -2,124 +2,112 @@
 #![tactic(auto)]
 
 ghost use Rattle.std.specs.Prelude.{◌≡◌};
-ghost use Rattle.answers.specs.Numbers.{cause_number, decision_number, fault_number, answer_number, written_number};
-ghost use Rattle.answers.specs.Counts.{counted_number, step_of, Counts};
+ghost use Rattle.answers.specs.declared.Refusal.TheVariants.{Barred, Faulty};
+ghost use Rattle.answers.specs.Numbers.{cause_number, decision_number, fault_number, answer_number, result_number, written_number};
+ghost use Rattle.answers.specs.Counts.{counted_number, Counts};
 
 // Why a decision refuses: RFC 3415's errorIndication.
-#[derive(Clone, Copy)]
+#[derive(Clone, Copy, PartialEq, Eq, Debug)]
 pub enum Cause {
-    NoSuchContext,
-    NoGroupName,
-    NoAccessEntry,
-    NoSuchView,
-    NotInView,
+    NoSuchContext = 1,
+    NoGroupName = 2,
+    NoAccessEntry = 3,
+    NoSuchView = 4,
+    NotInView = 5,
 }
 
 // What RFC 3415 decides of a request.
-#[derive(Clone, Copy)]
-pub enum Decision {
-    Allowed,
-    Refused(Cause),
-}
+pub type Decision = Result<(), Cause>;
 
 // Why a call does nothing: what it was lent or handed is not in order.
-#[derive(Clone, Copy)]
+#[derive(Clone, Copy, PartialEq, Eq, Debug)]
 pub enum Fault {
-    NotSound,
-    OutOfRange,
-    TableFull,
-    RowAbsent,
-    StorageForbids,
-    ContextTable,
-    NotAnInstance,
-    Torn,
-    NotAscending,
-    TooShort,
-    RowHeld,
-    NotASet,
+    NotSound = 6,
+    OutOfRange = 7,
+    TableFull = 9,
+    RowAbsent = 10,
+    StorageForbids = 11,
+    ContextTable = 12,
+    NotAnInstance = 13,
+    Torn = 14,
+    NotAscending = 15,
+    TooShort = 16,
+    RowHeld = 18,
+    NotASet = 19,
 }
 
-// The answer of a decision request.
-#[derive(Clone, Copy)]
-pub enum Answer {
-    Decided(Decision),
+// Why an edit is not made: the tables do not let its principal make it, or something is not in order.
+#[derive(Clone, Copy, PartialEq, Eq, Debug)]
+pub enum Refusal {
+    Barred(Cause),
     Faulty(Fault),
 }
 
-// The answer of a call that writes into a lent buffer: how many elements it has written, or why none.
-#[derive(Clone, Copy)]
-pub enum Written {
-    Length(usize),
-    Unwritten(Fault),
+impl From<Cause> for Refusal {
+    ghost from_gives = { λ c r. r ≡ Barred c };
+
+    fn from(c: Cause) -> Refusal {
+        Refusal::Barred(c)
+    }
 }
+
+impl From<Fault> for Refusal {
+    ghost from_gives = { λ f r. r ≡ Faulty f };
+
+    fn from(f: Fault) -> Refusal {
+        Refusal::Faulty(f)
+    }
+}
+
+// The answer of a decision request: what is decided, or why nothing is.
+pub type Answer = Result<Decision, Fault>;
 
 // The number of a cause.
 pub fn cause_number(c: Cause) -> u32
     ensures { result ≡ cause_number c }
 {
-    match c {
-        Cause::NoSuchContext => 1,
-        Cause::NoGroupName => 2,
-        Cause::NoAccessEntry => 3,
-        Cause::NoSuchView => 4,
-        Cause::NotInView => 5,
-    }
+    c as u32
 }
 
 // The number of a decision.
 pub fn decision_number(d: Decision) -> u32
     ensures { result ≡ decision_number d }
 {
-    match d {
-        Decision::Allowed => 0,
-        Decision::Refused(c) => cause_number(c),
-    }
+    d.err().map_or(0, cause_number)
 }
 
 // The number of a fault.
 pub fn fault_number(f: Fault) -> u32
     ensures { result ≡ fault_number f }
 {
-    match f {
-        Fault::NotSound => 6,
-        Fault::OutOfRange => 7,
-        Fault::TableFull => 9,
-        Fault::RowAbsent => 10,
-        Fault::StorageForbids => 11,
-        Fault::ContextTable => 12,
-        Fault::NotAnInstance => 13,
-        Fault::Torn => 14,
-        Fault::NotAscending => 15,
-        Fault::TooShort => 16,
-        Fault::RowHeld => 18,
-        Fault::NotASet => 19,
-    }
+    f as u32
 }
 
 // The number of the answer of a decision request.
 pub fn answer_number(a: Answer) -> u32
     ensures { result ≡ answer_number a }
 {
-    match a {
-        Answer::Decided(d) => decision_number(d),
-        Answer::Faulty(f) => fault_number(f),
-    }
+    a.map_or_else(fault_number, decision_number)
+}
+
+// The number of an answer that is a fault or a success, whatever that hands back.
+pub fn result_number<T: Copy>(r: Result<T, Fault>) -> u32
+    ensures { result ≡ result_number r }
+{
+    r.err().map_or(0, fault_number)
 }
 
 // The number of a writer's answer.
-pub fn written_number(w: Written) -> u32
+pub fn written_number(w: Result<usize, Fault>) -> u32
     ensures { result ≡ written_number w }
 {
-    match w {
-        Written::Length(_) => 0,
-        Written::Unwritten(f) => fault_number(f),
-    }
+    result_number(w)
 }
 
 // ---- the four counts of refused requests: the tally is lent by reference and counted up in its place
 
 // The counts of the 1997 draft (snmpV3AcStats), each with RFC 3415's causes that add to it.
-#[derive(Clone, Copy)]
+#[derive(Clone, Copy, PartialEq, Eq, Debug)]
 pub struct Tally {
     pub unknown_contexts: u32, // noSuchContext
     pub no_groups: u32, // noGroupName
@@ -127,61 +115,33 @@ pub struct Tally {
     pub unauthorized_accesses: u32, // noSuchView, notInView
 }
 
-// The answer of the counting call.
-#[derive(Clone, Copy)]
-pub enum Counted {
-    Done,
-    Faulty(Fault),
-}
-
 // Document 01's number of the answer.
-pub fn counted_number(c: Counted) -> u32
+pub fn counted_number(c: Result<(), Fault>) -> u32
     ensures { result ≡ counted_number c }
 {
-    match c {
-        Counted::Done => 0,
-        Counted::Faulty(f) => fault_number(f),
-    }
+    result_number(c)
 }
 
 // The tally after an answer, and the answer of the call.
-#[derive(Clone, Copy)]
+#[derive(Clone, Copy, PartialEq, Eq, Debug)]
 pub struct Step {
     pub tally: Tally,
-    pub answer: Counted,
-}
-
-// The match selects the counter.
-fn step_of(t: Tally, answer: u32) -> Step
-    ensures { result ≡ step_of t answer }
-{
-    let mut up = t;
-    match answer {
-        1 => up.unknown_contexts = std::num::wrapping_add_u32(t.unknown_contexts, 1),
-        2 => up.no_groups = std::num::wrapping_add_u32(t.no_groups, 1),
-        3 => up.no_views = std::num::wrapping_add_u32(t.no_views, 1),
-        4..=5 => up.unauthorized_accesses = std::num::wrapping_add_u32(t.unauthorized_accesses, 1),
-        0 | 6..=31 => {}
-        _ => {
-            return Step {
-                tally: t,
-                answer: Counted::Faulty(Fault::OutOfRange),
-            };
-        }
-    }
-    Step {
-        tally: up,
-        answer: Counted::Done,
-    }
+    pub answer: Result<(), Fault>,
 }
 
 // Counts an answer.
-pub fn count(tally: &mut Tally, answer: u32) -> Counted
+pub fn count(tally: &mut Tally, answer: u32) -> Result<(), Fault>
     ensures { Counts tally.old answer tally.new result }
 {
-    let step = step_of(*tally, answer);
-    *tally = step.tally;
-    step.answer
+    match answer {
+        0 | 6..=31 => {}
+        1 => tally.unknown_contexts = tally.unknown_contexts.wrapping_add(1),
+        2 => tally.no_groups = tally.no_groups.wrapping_add(1),
+        3 => tally.no_views = tally.no_views.wrapping_add(1),
+        4..=5 => tally.unauthorized_accesses = tally.unauthorized_accesses.wrapping_add(1),
+        _ => return Err(Fault::OutOfRange),
+    }
+    Ok(())
 }
 
 // The same for a caller that holds its tally by value: it is lent to `count` for the call, and handed back.

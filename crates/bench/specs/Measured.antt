@@ -1,7 +1,7 @@
 -- The calls on a store under C names: the number of each call's answer, and the call's own promise. Assumes nothing.
 use Rattle.std.specs.Prelude.{◌≡◌, cond, ℕ, ◌+◌, eqb}
-use Rattle.answers.specs.declared.Written.{Written}
-use Rattle.answers.specs.declared.Written.TheVariants.{Length, Unwritten}
+use Rattle.std.specs.Prelude.{Ok, Err}
+use Rattle.answers.specs.Types.{Written}
 use Rattle.answers.specs.Numbers.{fault_number}
 use Rattle.edit_rules.specs.declared.Operation.{Operation}
 use Rattle.edit_rules.specs.declared.Operation.TheVariants.{Create, Change, Remove}
@@ -18,8 +18,8 @@ operation_numbered n = cond (eqb n 0) Create (cond (eqb n 1) Change Remove)
 
 -- a length, or a refusal's number above all lengths
 abbrev pub length_number : Written → ℕ
-length_number (Length n) = n
-length_number (Unwritten f) = 4294967296 + fault_number f
+length_number (Ok n) = n
+length_number (Err f) = 4294967296 + fault_number f
 
 -- an answer that keeps its promise, and its number
 pub record Numbered {A : Type 0} (number : A → ℕ) (Promise : A → Type 0) (r : ℕ) : Type 0 where

@@ -12,7 +12,7 @@ ghost use Rattle.edits.specs.Calls.{edited_number, OwnerEdits};
 ghost use Rattle.image_transfer.specs.Transfer.{loaded_number, Reads, Writes};
 ghost use Rattle.bench.specs.Measured.{operation_numbered, table_numbered, length_number, Numbered};
 
-use answers::Written;
+use answers::Fault;
 use edit_rules::Operation;
 use image::ROOM;
 use rows::Table;
@@ -44,12 +44,12 @@ pub fn operation_numbered(n: u32) -> Operation
     Operation::Remove
 }
 
-fn length_number(w: Written) -> u64
+fn length_number(w: Result<usize, Fault>) -> u64
     ensures { result ≡ length_number w }
 {
     match w {
-        Written::Length(n) => n as u64,
-        Written::Unwritten(f) => 4294967296 + answers::fault_number(f) as u64,
+        Ok(n) => n as u64,
+        Err(f) => 4294967296 + answers::fault_number(f) as u64,
     }
 }
 

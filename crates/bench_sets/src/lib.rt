@@ -44,7 +44,7 @@ fn set_number(a: SetAnswer) -> u64
     ensures { result ≡ set_number a }
 {
     let answer = a.answer;
-    let position = numbers::least(a.position, MOST_EDITS);
+    let position = a.position.min(MOST_EDITS);
     position as u64 * 256 + edits::edited_number(answer) as u64
 }
 

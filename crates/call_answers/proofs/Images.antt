@@ -10,10 +10,10 @@ use lib.Dec.{leb}
 use lib.ListN.{length, take, drop, length-append}
 use lib.Seq.{take-append_seam}
 use borrow.Author.Tests.{le-leb}
+use Rattle.std.specs.Prelude.{Ok, Err}
 use Rattle.answers.specs.declared.Fault.{Fault}
 use Rattle.answers.specs.declared.Fault.TheVariants.{NotSound}
-use Rattle.answers.specs.declared.Written.{Written}
-use Rattle.answers.specs.declared.Written.TheVariants.{Length, Unwritten}
+use Rattle.answers.specs.Types.{Written}
 use Rattle.numbers.proofs.Bools.{split as by, cond-true, cond-false}
 use Rattle.rows.specs.Tables.{Tables}
 use Rattle.numbers.specs.BigEndian.{Octets}
@@ -58,21 +58,21 @@ module _ (w found after : List ℕ) (b : Octets w) (l : length found ≡ room) w
           text_is = rw (k, q);
         }
 
-  wrote : (o : Option Tables) → held w ≡ o → {n : ℕ} → Length n ≡ written_of o (length found) → after ≡ buffer_of o found → Image w after n
+  wrote : (o : Option Tables) → held w ≡ o → {n : ℕ} → Ok n ≡ written_of o (length found) → after ≡ buffer_of o found → Image w after n
   wrote none q i a = let z : ◌≡◌ {A = ℕ} 0 1 = cc in absurd (omega arith)
   wrote (some t) q {n} i a =
       let f = fits t q in
-      let j : Length n ≡ Length (length (image_of t)) = i ∙ cond-true _ _ f in
+      let j : Ok n ≡ Ok (length (image_of t)) = i ∙ cond-true _ _ f in
       let z : n ≡ length (image_of t) = cc in
       rw z (made t q (a ∙ cond-true _ _ f))
 
-  refused : (o : Option Tables) → held w ≡ o → {f : Fault} → Unwritten f ≡ written_of o (length found) → fault_text f ≡ image_text_of o
+  refused : (o : Option Tables) → held w ≡ o → {f : Fault} → Err f ≡ written_of o (length found) → fault_text f ≡ image_text_of o
   refused none q {f} i = let z : f ≡ NotSound = cc in ap fault_text z
-  refused (some t) q {f} i = let j : Unwritten f ≡ Length (length (image_of t)) = i ∙ cond-true _ _ (fits t q) in cc
+  refused (some t) q {f} i = let j : Err f ≡ Ok (length (image_of t)) = i ∙ cond-true _ _ (fits t q) in cc
 
   module _ {r : Written} (p : Writes (held w) found after r) where
-    pub image-told : {n : ℕ} → r ≡ Length n → Image w after n
+    pub image-told : {n : ℕ} → r ≡ Ok n → Image w after n
     image-told q = wrote (held w) refl (sym q ∙ p.answer_is) p.buffer_is
 
-    pub image-refused : {f : Fault} → r ≡ Unwritten f → fault_text f ≡ image_text_of (held w)
+    pub image-refused : {f : Fault} → r ≡ Err f → fault_text f ≡ image_text_of (held w)
     image-refused q = refused (held w) refl (sym q ∙ p.answer_is)

@@ -10,10 +10,10 @@ use lib.Dec.{leb}
 use lib.ListN.{length, take, drop, length-append}
 use lib.Seq.{take-append_seam}
 use borrow.Author.Tests.{leb-true}
+use Rattle.std.specs.Prelude.{Ok, Err}
 use Rattle.answers.specs.declared.Fault.{Fault}
 use Rattle.answers.specs.declared.Fault.TheVariants.{TooShort, NotAnInstance}
-use Rattle.answers.specs.declared.Written.{Written}
-use Rattle.answers.specs.declared.Written.TheVariants.{Length, Unwritten}
+use Rattle.answers.specs.Types.{Written}
 use Rattle.numbers.specs.Lists.{is_none}
 use Rattle.rows.specs.declared.Shape.TheVariants.{Key}
 use Rattle.rows.specs.declared.Table.{Table}
@@ -22,8 +22,8 @@ use Rattle.rows.specs.Rows.{key_fields, index_of}
 use Rattle.rows.proofs.Sound.{cond-none}
 use Rattle.numbers.specs.BigEndian.{Octets}
 use Rattle.rows.proofs.Inverse.{values-made, legals-read}
-use Rattle.instance_decode.specs.declared.Decoded.{Decoded}
-use Rattle.instance_decode.specs.declared.Decoded.TheVariants.{Instance, Faulty}
+use Rattle.instance_decode.specs.Types.{Decoded}
+use Rattle.instance_decode.specs.declared.Instance.{Instance}
 use Rattle.instance_encode.specs.Instances.{base, instance, lists, encode_fault, written, Encodes}
 use Rattle.instance_fields.specs.Indices.{parse_index}
 use Rattle.instance_decode.specs.Decoding.{Reading, read_index, read_column, table_of, read_instance, key_bytes, decoded, buffered, Delivers}
@@ -49,11 +49,11 @@ unfolding dotted_text
 dotted-short [] = omega arith
 dotted-short (x ∷ xs) = omega (arith, dots-short xs, length-append (decimal_text x) (dots_text xs), length-decimal x)
 
-is-length : (o : Option Fault) (m : ℕ) {n : ℕ} → Length n ≡ written o m → (o ≡ none) × (n ≡ m)
+is-length : (o : Option Fault) (m : ℕ) {n : ℕ} → Ok n ≡ written o m → (o ≡ none) × (n ≡ m)
 is-length none m q = (refl, cc)
 is-length (some f) m q = (cc, cc)
 
-is-unwritten : (o : Option Fault) (m : ℕ) {f : Fault} → Unwritten f ≡ written o m → o ≡ some f
+is-unwritten : (o : Option Fault) (m : ℕ) {f : Fault} → Err f ≡ written o m → o ≡ some f
 is-unwritten none m q = cc
 is-unwritten (some g) m q = cc
 
@@ -71,10 +71,10 @@ module _ (t : Table) (column : ℕ) (key found after : List ℕ) {r : Written} (
   unfolding whole
   answer_is = e.answer_is ∙ ap (λ n. written (encode_fault t column key n) (length (instance t column (index_of t key)))) l
 
-  pub encoded-fault : {f : Fault} → r ≡ Unwritten f → encode_fault t column key parts ≡ some f
+  pub encoded-fault : {f : Fault} → r ≡ Err f → encode_fault t column key parts ≡ some f
   encoded-fault q = is-unwritten (encode_fault t column key parts) (length whole) (sym q ∙ answer_is)
 
-  module _ {n : ℕ} (q : r ≡ Length n) where
+  module _ {n : ℕ} (q : r ≡ Ok n) where
     sound : (encode_fault t column key parts ≡ none) × (n ≡ length whole)
     sound = is-length (encode_fault t column key parts) (length whole) (sym q ∙ answer_is)
 
@@ -131,10 +131,10 @@ read-fields oid d e =
     column-fields a.0 (drop (length (base a.0)) oid) d a.1.1
 
 -- what is handed over of a reading
-pub record Handed (oid after : List ℕ) (t : Table) (column n : ℕ) : Type 0 where
-  pub key_room : n ≤ length after
-  pub key_sound : faults (key_fields t) (take (n - 0) after) ≡ none
-  pub text_is : instance_word ++ column_key_of t column (take (n - 0) after) ≡ decoded_text (read_instance oid)
+pub record Handed (oid after : List ℕ) (i : Instance) : Type 0 where
+  pub key_room : i.key ≤ length after
+  pub key_sound : faults (key_fields i.table) (take (i.key - 0) after) ≡ none
+  pub text_is : instance_word ++ column_key_of i.table i.column (take (i.key - 0) after) ≡ decoded_text (read_instance oid)
 
 module _ (oid found after : List ℕ) where
   module _ (d : Reading) (q : read_instance oid ≡ some d) (b : after ≡ key_bytes d ++ drop (length (key_bytes d)) found) where
@@ -143,29 +143,26 @@ module _ (oid found after : List ℕ) where
         let z : length (key_bytes d) - 0 ≡ length (key_bytes d) = omega arith in
         rw (z, b) (take-append_seam (key_bytes d) (drop (length (key_bytes d)) found))
 
-    handed : Handed oid after d.table d.column (length (key_bytes d))
+    handed : Handed oid after (record { table = d.table; column = d.column; key = length (key_bytes d) })
     handed = record {
       key_room = omega (arith, ap length b, length-append (key_bytes d) (drop (length (key_bytes d)) found));
       key_sound = rw key_is (writes-read oid d q).encodable.sound;
       text_is = rw (key_is, q, read-fields oid d q);
     }
 
-  delivered : (o : Option Reading) → read_instance oid ≡ o → {t : Table} {column n : ℕ} → Instance t column n ≡ decoded o
-      → after ≡ buffered o found → Handed oid after t column n
-  delivered none q i b = let z : ◌≡◌ {A = ℕ} 0 1 = cc in absurd (omega arith)
-  delivered (some d) q {t} {column} {n} i b =
-      let x : t ≡ d.table = cc in
-      let y : column ≡ d.column = cc in
-      let z : n ≡ length (key_bytes d) = cc in
-      rw (x, y, z) (handed d q b)
+  delivered : (o : Option Reading) → read_instance oid ≡ o → {i : Instance} → Ok i ≡ decoded o → after ≡ buffered o found → Handed oid after i
+  delivered none q e b = let z : ◌≡◌ {A = ℕ} 0 1 = cc in absurd (omega arith)
+  delivered (some d) q {i} e b =
+      let x : i ≡ record { table = d.table; column = d.column; key = length (key_bytes d) } = cc in
+      rw x (handed d q b)
 
-  undelivered : (o : Option Reading) {f : Fault} → Faulty f ≡ decoded o → fault_text f ≡ decoded_text o
+  undelivered : (o : Option Reading) {f : Fault} → Err f ≡ decoded o → fault_text f ≡ decoded_text o
   undelivered none {f} q = let z : f ≡ NotAnInstance = cc in ap fault_text z
   undelivered (some d) q = cc
 
   module _ {r : Decoded} (p : Delivers (read_instance oid) found after r) where
-    pub decoded-handed : {t : Table} {column n : ℕ} → r ≡ Instance t column n → Handed oid after t column n
+    pub decoded-handed : {i : Instance} → r ≡ Ok i → Handed oid after i
     decoded-handed q = delivered (read_instance oid) refl (sym q ∙ p.answer_is) p.buffer_is
 
-    pub decoded-fault : {f : Fault} → r ≡ Faulty f → fault_text f ≡ decoded_text (read_instance oid)
+    pub decoded-fault : {f : Fault} → r ≡ Err f → fault_text f ≡ decoded_text (read_instance oid)
     decoded-fault q = undelivered (read_instance oid) (sym q ∙ p.answer_is)

@@ -10,9 +10,8 @@ ghost use Rattle.instance_decode.specs.Decoding.{read_instance};
 ghost use Rattle.text_values.specs.Texts.{Puts};
 ghost use Rattle.call_answers.specs.Answers.{fault_text, instance_text, instance_word, column_key_of, decoded_text, image_text_of, Room, Told};
 
-use answers::{Fault, Written};
+use answers::Fault;
 use image::ROOM;
-use instance_decode::Decoded;
 use rows::{KEY_MAX, Shape, Table};
 
 // Sub-identifiers enough for every instance: the longest has 110.
@@ -39,11 +38,11 @@ pub fn tell_encoded(out: &mut [u8], at: usize, t: Table, column: u32, key: &[u8]
     let mut oid = [0u32; PARTS];
     let written = instance_encode::encode(t, column, key, &mut oid);
     match written {
-        Written::Length(n) => {
+        Ok(n) => {
             let next = text_values::put_text(out, at, b"oid ");
             text_values::put_dotted(out, next, &oid[0..n])
         }
-        Written::Unwritten(f) => tell_fault(out, at, f),
+        Err(f) => tell_fault(out, at, f),
     }
 }
 
@@ -76,8 +75,8 @@ pub fn tell_decoded(out: &mut [u8], at: usize, oid: &[u32]) -> usize
     let mut key = [0u8; KEY_MAX];
     let decoded = instance_decode::decode(oid, &mut key);
     match decoded {
-        Decoded::Instance(t, column, n) => tell_instance(out, at, t, column, &key[0..n]),
-        Decoded::Faulty(f) => tell_fault(out, at, f),
+        Ok(i) => tell_instance(out, at, i.table, i.column, &key[0..i.key]),
+        Err(f) => tell_fault(out, at, f),
     }
 }
 
@@ -89,10 +88,10 @@ pub fn tell_image(out: &mut [u8], at: usize, store: &[u8]) -> usize
     let mut image = [0u8; ROOM];
     let written = image_transfer::write_image(store, &mut image);
     match written {
-        Written::Length(n) => {
+        Ok(n) => {
             let next = text_values::put_text(out, at, b"image ");
             text_values::put_hex(out, next, &image[0..n])
         }
-        Written::Unwritten(f) => tell_fault(out, at, f),
+        Err(f) => tell_fault(out, at, f),
     }
 }

@@ -9,6 +9,7 @@ use native.Mathlib.Nat.{sub-zero}
 use native.Mathlib.Omega.{arith}
 use lib.ListN.{length, take, drop, length-append}
 use lib.Seq.{take-append_seam}
+use Rattle.std.specs.Prelude.{Some, None}
 use Rattle.numbers.specs.Laid.{laid}
 use Rattle.numbers.specs.Lists.{OnSome}
 use Rattle.numbers.proofs.Laid.{laid_nil}
@@ -20,8 +21,7 @@ use Rattle.rows.specs.Rows.{row_fields}
 use Rattle.rows.specs.Tables.{Tables}
 use Rattle.rows.proofs.Inverse.{faults-made, values-made}
 use Rattle.decision_steps.specs.Request.{Request}
-use Rattle.explain_rules.specs.declared.Shown.{Shown}
-use Rattle.explain_rules.specs.declared.Shown.TheVariants.{Row, Nothing}
+use Rattle.explain_rules.specs.Types.{Shown}
 use Rattle.explain_rules.specs.declared.Explained.{Explained}
 use Rattle.explain_rules.specs.Explanation.{Explanation, explanation, shown, lent, Shows, Rooms, HandsBack}
 use Rattle.text_values.specs.Texts.{decimal_text, Puts}
@@ -64,7 +64,7 @@ module _ {R : Type 0} (t : Table) (fields_of : R → List (List ℕ)) where
 -- ---- told from the room
 
 module _ (t : Table) {s : Shown} (room : List ℕ) where
-  module _ {n : ℕ} (q : s ≡ Row n) where
+  module _ {n : ℕ} (q : s ≡ Some n) where
     pub row_in : WholeIn t s room → RowIn t n room
     row_in h = rw q at h
 
@@ -74,7 +74,7 @@ module _ (t : Table) {s : Shown} (room : List ℕ) where
     pub row-text : shown_text t (fields_in t s room) ≡ 32 ∷ row_text t (values (row_fields t) (take (n - 0) room))
     row-text = rw (q, sub-zero n)
 
-  module _ (q : s ≡ Nothing) where
+  module _ (q : s ≡ None) where
     pub none_told : {at : ℕ} {w : List ℕ} → Puts (shown_text t (fields_in t s room)) at w w at
     none_told {at} {w} = rw q (record { lays = sym (laid_nil at w); ends = omega arith })
 
@@ -93,8 +93,8 @@ pub told-as : (tables : Option Tables) {q q' : Request} {at : ℕ} {w out : List
 told-as tables e h = rw (← e) h
 
 pub shown-short : (t : Table) (s : Shown) (room : List ℕ) → WholeIn t s room → length (shown_text t (fields_in t s room)) ≤ 901
-shown-short t (Row n) room w = omega (arith, length-entry Shape.Row t (values (row_fields t) (take n room)) w.legal)
-shown-short t Nothing room w = omega arith
+shown-short t (Some n) room w = omega (arith, length-entry Shape.Row t (values (row_fields t) (take n room)) w.legal)
+shown-short t None room w = omega arith
 
 pub text-short : (n : ℕ) (m a v : Option (List (List ℕ))) → length (shown_text Mapping m) ≤ 901 → length (shown_text Access a) ≤ 901
     → length (shown_text View v) ≤ 901 → length (text_of n m a v) ≤ answer_room

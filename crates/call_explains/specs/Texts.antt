@@ -1,13 +1,13 @@
 -- The text of an explanation: the answer's number, and each row shown in the words of a line that puts it, in the order of the steps. Assumes nothing.
 use Rattle.std.specs.Prelude.{◌≡◌, true, List, [], ◌∷◌, ◌++◌, ℕ, ◌≤◌, length, take}
 use Rattle.std.proofs.Math.Option.{Option, none, some, map}
+use Rattle.std.specs.Prelude.{Some, None}
 use Rattle.answers.specs.Numbers.{answer_number}
 use Rattle.rows.specs.declared.Table.{Table}
 use Rattle.rows.specs.declared.Table.TheVariants.{Mapping, Access, View}
 use Rattle.rows.specs.Fields.{legals, faults, values}
 use Rattle.rows.specs.Rows.{row_fields, mapping_fields, access_fields, view_fields}
-use Rattle.explain_rules.specs.declared.Shown.{Shown}
-use Rattle.explain_rules.specs.declared.Shown.TheVariants.{Row, Nothing}
+use Rattle.explain_rules.specs.Types.{Shown}
 use Rattle.explain_rules.specs.declared.Explained.{Explained}
 use Rattle.explain_rules.specs.Explanation.{Explanation, Rooms}
 use Rattle.text_values.specs.Texts.{decimal_text}
@@ -34,12 +34,12 @@ pub record RowIn (t : Table) (n : ℕ) (room : List ℕ) : Type 0 where
   pub legal : legals (row_fields t) (values (row_fields t) (take n room)) ≡ true
 
 abbrev pub WholeIn : Table → Shown → List ℕ → Type 0
-WholeIn t (Row n) room = RowIn t n room
-WholeIn t Nothing room = Unit {0}
+WholeIn t (Some n) room = RowIn t n room
+WholeIn t None room = Unit {0}
 
 abbrev pub fields_in : Table → Shown → List ℕ → Option (List (List ℕ))
-fields_in t (Row n) room = some (values (row_fields t) (take n room))
-fields_in t Nothing room = none
+fields_in t (Some n) room = some (values (row_fields t) (take n room))
+fields_in t None room = none
 
 abbrev pub handed_text : Explained → Rooms → List ℕ
 handed_text e rooms =

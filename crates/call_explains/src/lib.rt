@@ -14,7 +14,7 @@ ghost use Rattle.call_verbs.specs.Calls.{kinds_of};
 ghost use Rattle.call_answers.specs.Answers.{Room, Told};
 ghost use Rattle.call_explains.specs.Texts.{shown_text, explanation_text, fields_in, WholeIn, handed_text};
 
-use explain_rules::{Explained, Shown};
+use explain_rules::Explained;
 use line_fields::MOST_FIELDS;
 use rows::{ROW_MAX, Shape, Table};
 use text_rows::Slot;
@@ -22,12 +22,12 @@ use text_rows::Slot;
 // Each function puts its text into `out` from `at` on, and answers where it ends.
 
 // A row that is shown, behind a space: it lies whole at the front of `room`.
-fn put_shown(out: &mut [u8], at: usize, t: Table, shown: Shown, room: &[u8]) -> usize
+fn put_shown(out: &mut [u8], at: usize, t: Table, shown: Option<usize>, room: &[u8]) -> usize
     requires whole { WholeIn t shown room.now }
     requires room { at + length (shown_text t (fields_in t shown room.now)) ≤ length out.old }
     ensures { Puts (shown_text t (fields_in t shown room.now)) at out.old out.new result }
 {
-    let Shown::Row(n) = shown else {
+    let Some(n) = shown else {
         return at;
     };
     let next = text_values::put_octet(out, at, b' ');

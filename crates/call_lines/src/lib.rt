@@ -9,7 +9,6 @@ ghost use Rattle.call_lines.specs.Lines.{line_asks, line_room, PutsLine};
 
 use call_answers::ANSWER_ROOM;
 use line_fields::LINE_ROOM;
-use text_words::Word;
 
 // Room for what is told of a line: its number of 20 digits at most, a space, the answer, a newline.
 pub const TOLD_ROOM: usize = ANSWER_ROOM + 22;
@@ -34,7 +33,7 @@ pub fn play(store: &mut [u8], line: &[u8], out: &mut [u8], at: usize) -> usize
     requires { Room at out.old }
     ensures { PutsPlay (line_asks line.now) store.old store.new at out.old out.new result }
 {
-    let Word::To(end) = set_words::set_end(line) else {
+    let Some(end) = set_words::set_end(line) else {
         return play_named(store, line, out, at);
     };
     call_sets::play(store, line, end + 1, out, at)

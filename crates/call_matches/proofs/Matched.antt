@@ -8,6 +8,7 @@ use Prim.Native.Nat.{ℕ, ◌+◌, ◌-◌, ◌≤◌}
 use native.Mathlib.Omega.{arith}
 use lib.ListN.{length, take, drop, length-append}
 use lib.Seq.{take-append_seam}
+use Rattle.std.specs.Prelude.{Ok, Err, Some, None}
 use Rattle.answers.specs.declared.Fault.{Fault}
 use Rattle.numbers.specs.BigEndian.{Octets}
 use Rattle.rows.specs.declared.Shape.TheVariants.{Key}
@@ -16,8 +17,8 @@ use Rattle.rows.specs.declared.Table.TheVariants.{Access, View}
 use Rattle.rows.specs.Fields.{faults, values, legals}
 use Rattle.rows.specs.Rows.{AccessRow, ViewRow, key_fields}
 use Rattle.rows.proofs.Inverse.{faults-made, values-made, legals-read}
-use Rattle.decision_match.specs.declared.ViewMatch.{ViewMatch}
-use Rattle.decision_match.specs.declared.AccessMatch.{AccessMatch}
+use Rattle.decision_match.specs.Types.{ViewMatch}
+use Rattle.decision_match.specs.Types.{AccessMatch}
 use Rattle.decision_match.specs.Matches.{Choice, faulty, chosen, view_key_of, access_key_of, key_bytes, view_match, access_match, HandsView, HandsAccess}
 use Rattle.text_values.specs.Texts.{decimal_text}
 use Rattle.text_values.proofs.Digits.{length-decimal}
@@ -67,36 +68,37 @@ pub record TypedAt (c : Choice ViewRow) (after : List ℕ) (n type : ℕ) : Type
   pub key : KeyAt View fields after n
   pub text_is : typed_text fields type ≡ view_match_text c
 
-view-row : (c : Choice ViewRow) (found after : List ℕ) {n type : ℕ} → HandsView c found after (ViewMatch.Row n type) → TypedAt c after n type
+view-row : (c : Choice ViewRow) (found after : List ℕ) {n type : ℕ} → HandsView c found after (Ok (Some (n, type))) → TypedAt c after n type
 view-row (faulty f) found after h = let z : ◌≡◌ {A = ℕ} 0 1 = cc in absurd (omega arith)
 view-row (chosen none) found after h = let z : ◌≡◌ {A = ℕ} 0 1 = cc in absurd (omega arith)
 view-row (chosen (some r)) found after {n} {type} h =
-    let e : n ≡ length (key_bytes View (view_key_of r)) = cc in
-    let y : type ≡ r.family_type = cc in
+    let p : ◌≡◌ {A = ℕ × ℕ} (n, type) (length (key_bytes View (view_key_of r)), r.family_type) = cc in
+    let e : n ≡ length (key_bytes View (view_key_of r)) = ap (λ q. q.0) p in
+    let y : type ≡ r.family_type = ap (λ q. q.1) p in
     record {
       fields = view_key_of r;
       key = key-at View (view_key_of r) found after n h.key_legal e h.room_is;
       text_is = ap (typed_text (view_key_of r)) y;
     }
 
-view-none : (c : Choice ViewRow) → ViewMatch.Nothing ≡ view_match c → none_text ≡ view_match_text c
+view-none : (c : Choice ViewRow) → (Ok None) ≡ view_match c → none_text ≡ view_match_text c
 view-none (faulty f) e = cc
 view-none (chosen none) e = refl
 view-none (chosen (some r)) e = cc
 
-view-faulty : (c : Choice ViewRow) {f : Fault} → ViewMatch.Faulty f ≡ view_match c → fault_text f ≡ view_match_text c
+view-faulty : (c : Choice ViewRow) {f : Fault} → Err f ≡ view_match c → fault_text f ≡ view_match_text c
 view-faulty (faulty g) {f} e = let z : f ≡ g = cc in ap fault_text z
 view-faulty (chosen none) e = cc
 view-faulty (chosen (some r)) e = cc
 
 module _ (c : Choice ViewRow) (found after : List ℕ) {r : ViewMatch} (h : HandsView c found after r) where
-  pub view-told : {n type : ℕ} → r ≡ ViewMatch.Row n type → TypedAt c after n type
+  pub view-told : {n type : ℕ} → r ≡ Ok (Some (n, type)) → TypedAt c after n type
   view-told q = view-row c found after (rw q at h)
 
-  pub view-none-told : r ≡ ViewMatch.Nothing → none_text ≡ view_match_text c
+  pub view-none-told : r ≡ (Ok None) → none_text ≡ view_match_text c
   view-none-told q = view-none c (sym q ∙ h.answer_is)
 
-  pub view-fault-told : {f : Fault} → r ≡ ViewMatch.Faulty f → fault_text f ≡ view_match_text c
+  pub view-fault-told : {f : Fault} → r ≡ Err f → fault_text f ≡ view_match_text c
   view-fault-told q = view-faulty c (sym q ∙ h.answer_is)
 
 -- ---- of the access rows
@@ -106,29 +108,29 @@ pub record AccessAt (c : Choice AccessRow) (after : List ℕ) (n : ℕ) : Type 0
   pub key : KeyAt Access fields after n
   pub text_is : key_text Access fields ≡ access_match_text c
 
-access-row : (c : Choice AccessRow) (found after : List ℕ) {n : ℕ} → HandsAccess c found after (AccessMatch.Row n) → AccessAt c after n
+access-row : (c : Choice AccessRow) (found after : List ℕ) {n : ℕ} → HandsAccess c found after (Ok (Some n)) → AccessAt c after n
 access-row (faulty f) found after h = let z : ◌≡◌ {A = ℕ} 0 1 = cc in absurd (omega arith)
 access-row (chosen none) found after h = let z : ◌≡◌ {A = ℕ} 0 1 = cc in absurd (omega arith)
 access-row (chosen (some r)) found after {n} h =
     let e : n ≡ length (key_bytes Access (access_key_of r)) = cc in
     record { fields = access_key_of r; key = key-at Access (access_key_of r) found after n h.key_legal e h.room_is; text_is = refl }
 
-access-none : (c : Choice AccessRow) → AccessMatch.Nothing ≡ access_match c → none_text ≡ access_match_text c
+access-none : (c : Choice AccessRow) → (Ok None) ≡ access_match c → none_text ≡ access_match_text c
 access-none (faulty f) e = cc
 access-none (chosen none) e = refl
 access-none (chosen (some r)) e = cc
 
-access-faulty : (c : Choice AccessRow) {f : Fault} → AccessMatch.Faulty f ≡ access_match c → fault_text f ≡ access_match_text c
+access-faulty : (c : Choice AccessRow) {f : Fault} → Err f ≡ access_match c → fault_text f ≡ access_match_text c
 access-faulty (faulty g) {f} e = let z : f ≡ g = cc in ap fault_text z
 access-faulty (chosen none) e = cc
 access-faulty (chosen (some r)) e = cc
 
 module _ (c : Choice AccessRow) (found after : List ℕ) {r : AccessMatch} (h : HandsAccess c found after r) where
-  pub access-told : {n : ℕ} → r ≡ AccessMatch.Row n → AccessAt c after n
+  pub access-told : {n : ℕ} → r ≡ Ok (Some n) → AccessAt c after n
   access-told q = access-row c found after (rw q at h)
 
-  pub access-none-told : r ≡ AccessMatch.Nothing → none_text ≡ access_match_text c
+  pub access-none-told : r ≡ (Ok None) → none_text ≡ access_match_text c
   access-none-told q = access-none c (sym q ∙ h.answer_is)
 
-  pub access-fault-told : {f : Fault} → r ≡ AccessMatch.Faulty f → fault_text f ≡ access_match_text c
+  pub access-fault-told : {f : Fault} → r ≡ Err f → fault_text f ≡ access_match_text c
   access-fault-told q = access-faulty c (sym q ∙ h.answer_is)

@@ -12,7 +12,6 @@ ghost use Rattle.text_rows.specs.RowText.{key_text};
 ghost use Rattle.call_answers.specs.Answers.{Room, Told};
 ghost use Rattle.call_matches.specs.Texts.{none_text, typed_text, view_match_text, access_match_text};
 
-use decision_match::{AccessMatch, ViewMatch};
 use rows::{KEY_MAX, Shape, Table};
 
 // Each function puts its text into `out` from `at` on, and answers where it ends.
@@ -60,9 +59,9 @@ pub fn tell_view_match(
     let mut key = [0u8; KEY_MAX];
     let matched = decision_match::match_view(store, view_name, variable_name, &mut key);
     match matched {
-        ViewMatch::Row(n, family_type) => tell_typed(out, at, &key[0..n], family_type),
-        ViewMatch::Nothing => tell_none(out, at),
-        ViewMatch::Faulty(f) => call_answers::tell_fault(out, at, f),
+        Ok(Some((n, family_type))) => tell_typed(out, at, &key[0..n], family_type),
+        Ok(None) => tell_none(out, at),
+        Err(f) => call_answers::tell_fault(out, at, f),
     }
 }
 
@@ -91,8 +90,8 @@ pub fn tell_access_match(
         &mut key,
     );
     match matched {
-        AccessMatch::Row(n) => tell_key(out, at, Table::Access, &key[0..n]),
-        AccessMatch::Nothing => tell_none(out, at),
-        AccessMatch::Faulty(f) => call_answers::tell_fault(out, at, f),
+        Ok(Some(n)) => tell_key(out, at, Table::Access, &key[0..n]),
+        Ok(None) => tell_none(out, at),
+        Err(f) => call_answers::tell_fault(out, at, f),
     }
 }

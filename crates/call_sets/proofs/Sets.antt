@@ -8,12 +8,13 @@ use native.Mathlib.Omega.{arith}
 use lib.Dec.{ltb}
 use lib.ListN.{length, take}
 use borrow.Author.Tests.{ltb-true, ltb-false}
+use Rattle.std.specs.Prelude.{Err}
+use Rattle.answers.specs.declared.Refusal.TheVariants.{Faulty}
 use Rattle.answers.specs.declared.Fault.TheVariants.{NotASet}
 use Rattle.numbers.proofs.Bools.{split as by}
 use Rattle.rows.specs.Tables.{Tables}
 use Rattle.rows.proofs.Steps.{within-high}
 use Rattle.image.specs.Store.{held}
-use Rattle.edit_rules.specs.declared.Edited.TheVariants.{Faulty}
 use Rattle.edit_rules.specs.Edits.{Edit, Caller, outcome, caller_of}
 use Rattle.set_rules.specs.declared.SetEdit.{SetEdit}
 use Rattle.set_rules.specs.declared.EditSet.{EditSet}
@@ -35,7 +36,7 @@ use Rattle.call_plays.proofs.Plays.{plays-as}
 -- ---- more edits than a set has
 
 abbrev no_set : Tables → SetOutcome
-no_set ts = record { answer = answer_at (Faulty NotASet) 0; rows = ts }
+no_set ts = record { answer = answer_at (Err (Faulty NotASet)) 0; rows = ts }
 
 long-set : (ts : Tables) (c : Caller) (es : List Edit) → most_edits < length es → principal_set ts c es ≡ no_set ts
 unfolding principal_set set_judged is_set

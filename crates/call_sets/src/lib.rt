@@ -15,7 +15,6 @@ ghost use Rattle.call_plays.specs.Plays.{position_text, PutsPlay};
 use answers::Fault;
 use line_fields::LINE_ROOM;
 use set_rules::EditSet;
-use set_words::Principal;
 
 // Each function puts its text into `out` from `to` on, and answers where it ends.
 
@@ -67,15 +66,15 @@ pub fn play(store: &mut [u8], line: &[u8], at: usize, out: &mut [u8], to: usize)
 {
     let mut bytes = [0u8; LINE_ROOM];
     let mut parts = [0u32; LINE_ROOM];
-    let Principal::Said(model, slot, level, next) = set_words::read_caller(
-        line, at, &mut bytes, &mut parts,
-    ) else {
+    let Some(caller) = set_words::read_caller(line, at, &mut bytes, &mut parts) else {
         return call_answers::tell_fault(out, to, Fault::OutOfRange);
     };
-    let read = set_words::read_edits(line, next, &mut bytes, &mut parts);
+    let model = caller.model;
+    let level = caller.level;
+    let read = set_words::read_edits(line, caller.next, &mut bytes, &mut parts);
     if read.whole {
         let set = read.set;
-        let name = line_fields::octets_in(&bytes, slot);
+        let name = line_fields::octets_in(&bytes, caller.name);
         return make(store, model, name, level, set, &bytes, out, to);
     }
     call_answers::tell_fault(out, to, Fault::OutOfRange)

@@ -9,7 +9,6 @@ ghost use Rattle.call_verbs.specs.Calls.{verbs, match_verbs, verb_named, match_p
 ghost use Rattle.call_verbs.specs.Phrases.{Names};
 
 use line_fields::{Kind, MOST_FIELDS, REQUEST_FIELDS};
-use text_words::Word;
 
 // What a line asks for.
 #[derive(Clone, Copy)]
@@ -72,7 +71,7 @@ fn match_phrase(line: &[u8], at: usize) -> Named
     requires { at ≤ suc (length line.now) }
     ensures { Names result (match_phrase (words_from at line.now)) line.now }
 {
-    let Word::To(end) = text_words::word_at(line, at) else {
+    let Some(end) = text_words::word_at(line, at) else {
         return Named {
             verb: Verb::Unknown,
             next: at,

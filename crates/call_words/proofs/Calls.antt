@@ -9,7 +9,7 @@ use borrow.Author.Tests.{le-leb, lt-leb}
 use Rattle.rows.specs.declared.Table.{Table}
 use Rattle.edit_rules.specs.declared.Operation.{Operation}
 use Rattle.edit_rules.specs.Edits.{edit_of, caller_of}
-use Rattle.edit_rules.specs.declared.Edited.{Edited}
+use Rattle.edit_rules.specs.Types.{Edited}
 use Rattle.edits.specs.Calls.{OwnerEdits, PrincipalEdits}
 use Rattle.text_words.specs.Words.{longest, words, words_from}
 use Rattle.text_rows.specs.declared.Slot.{Slot}

@@ -8,7 +8,7 @@ use Rattle.rows.specs.Tables.{Tables}
 use Rattle.image.specs.Store.{held}
 use Rattle.decision_steps.specs.Request.{legal_request}
 use Rattle.decision_steps.specs.Decision.{if_legal, answer}
-use Rattle.edit_rules.specs.declared.Edited.{Edited}
+use Rattle.edit_rules.specs.Types.{Edited}
 use Rattle.edit_rules.specs.Edits.{Outcome}
 use Rattle.edit_rows.specs.Promise.{answered, left, Edits}
 use Rattle.walk_rules.specs.Walk.{walk_on, walk_in}

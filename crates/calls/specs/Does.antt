@@ -1,11 +1,11 @@
 -- The calls on a store of which lists are made (document 01, "The two lists of demand 3"), their answers, and what each of them does. Assumes nothing.
 use Rattle.std.specs.Prelude.{List, ℕ}
-use Rattle.answers.specs.declared.Answer.{Answer}
+use Rattle.answers.specs.Types.{Answer}
 use Rattle.answers.specs.Numbers.{answer_number}
 use Rattle.numbers.specs.BigEndian.{Octets}
 use Rattle.decision_steps.specs.Request.{Request}
 use Rattle.decision.specs.Decides.{Decides}
-use Rattle.edit_rules.specs.declared.Edited.{Edited}
+use Rattle.edit_rules.specs.Types.{Edited}
 use Rattle.edit_rules.specs.Edits.{Edit, Caller}
 use Rattle.walk_rules.specs.declared.Walked.{Walked}
 use Rattle.walk_rules.specs.Numbers.{walked_number}

@@ -3,14 +3,15 @@
 use mathlib.Core.Path.{◌≡◌, sym, ap, ◌∙◌}
 use mathlib.Core.Bool.{true, ◌&&◌}
 use mathlib.Core.List.{List, ◌++◌}
+use mathlib.Core.Option.{some}
 use Prim.Native.Nat.{ℕ, ◌-◌, ◌*◌, ◌≤◌, ◌<◌}
 use native.Mathlib.Omega.{arith}
 use lib.Dec.{leb}
 use lib.ListN.{length, take, get_or, length-append}
 use lib.Seq.{take_at}
+use Rattle.std.specs.Prelude.{Ok, Err}
 use Rattle.answers.specs.Numbers.{answer_number}
-use Rattle.answers.specs.declared.Answer.{Answer}
-use Rattle.answers.specs.declared.Answer.TheVariants.{Faulty}
+use Rattle.answers.specs.Types.{Answer}
 use Rattle.answers.specs.declared.Fault.{Fault}
 use Rattle.answers.specs.declared.Fault.TheVariants.{NotSound}
 use Rattle.numbers.proofs.Bools.{and_right}
@@ -20,11 +21,10 @@ use Rattle.rows.specs.Rows.{model_max}
 use Rattle.rows.specs.Fields.{within}
 use Rattle.rows.proofs.Sound.{within-most}
 use Rattle.image_layout.specs.declared.Layout.{Layout}
-use Rattle.image_judge.specs.declared.Surveyed.TheVariants.{Laid, Bad}
 use Rattle.image_layout.specs.Layout.{layout_of}
 use Rattle.image_judge.specs.Faults.{tables_at, surveyed}
 use Rattle.image.specs.Store.{store_fault, held}
-use Rattle.image.proofs.Surveys.{store-held, store-unheld}
+use Rattle.image.proofs.Surveys.{bad-some, store-bad, store-held, store-unheld}
 use Rattle.decision_steps.specs.Request.{Request, legal_request, longest_name, no_auth_no_priv, auth_priv, read, notify, most_parts}
 use Rattle.decision_steps.specs.Decision.{answer_on, answer}
 use Rattle.decision_steps.specs.Bytes.{identifier}
@@ -59,8 +59,12 @@ module _ (w : List ℕ) (q : Request) where
   pub decides : {r : Answer} → r ≡ answer (held w) q → Decides q w r
   decides e = record { answer_is = e; number_is = ap answer_number e }
 
-  pub answer-unsound : {f : Fault} → Bad f ≡ surveyed (store_fault w) (layout_of w) → Decides q w (Faulty NotSound)
-  answer-unsound e = decides (sym (rw (store-unheld w e)))
+  pub answer-unsound : {f : Fault} → Err f ≡ surveyed (store_fault w) (layout_of w) → Decides q w (Err f)
+  unfolding store_fault
+  answer-unsound {f} e =
+      let n : some f ≡ some NotSound = sym (bad-some (store_fault w) (layout_of w) e) ∙ rw (store-bad w e) in
+      let k : f ≡ NotSound = cc in
+      decides (ap Err k ∙ sym (rw (store-unheld w e)))
 
-  pub answer-laid : {r : Answer} {l : Layout} → r ≡ answer_on (tables_at w l) q → Laid l ≡ surveyed (store_fault w) (layout_of w) → Decides q w r
+  pub answer-laid : {r : Answer} {l : Layout} → r ≡ answer_on (tables_at w l) q → Ok l ≡ surveyed (store_fault w) (layout_of w) → Decides q w r
   answer-laid a e = decides (a ∙ sym (rw (store-held w e)))

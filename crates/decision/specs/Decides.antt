@@ -1,7 +1,7 @@
 -- What the call of the decision answers to a request, of the store that it found. Assumes nothing.
 use Rattle.std.specs.Prelude.{◌≡◌, List, ℕ}
 use Rattle.answers.specs.Numbers.{answer_number}
-use Rattle.answers.specs.declared.Answer.{Answer}
+use Rattle.answers.specs.Types.{Answer}
 use Rattle.image.specs.Store.{held}
 use Rattle.decision_steps.specs.Request.{Request}
 use Rattle.decision_steps.specs.Decision.{answer}

@@ -13,9 +13,8 @@ ghost use Rattle.decision_parts.specs.Parts.{ViewIn, rows_of};
 ghost use Rattle.decision.specs.Decides.{Decides};
 
 use answers::{Answer, Decision, Fault};
-use decision_find::{Found, ViewRows};
-use decision_parts::{NamedView, Standing};
-use image_judge::Surveyed;
+use decision_find::ViewRows;
+use decision_parts::NamedView;
 use image_layout::Layout;
 use rows::MODEL_MAX;
 
@@ -62,15 +61,16 @@ pub fn decide(
         view_type,
         context_name,
     );
-    let standing = authorized.standing;
-    match standing {
-        Standing::Denied(cause) => Decision::Refused(cause),
-        Standing::Viewed(v) => decision_parts::decide_in(w, v, variable),
-    }
+    decision_parts::decide_in(w, authorized.standing?, variable)
 }
 
 // The row that decides on a variable in numbers, no more than 128 of them, among rows that hold all of the view.
-pub fn variable_row(w: &[u8], rows: ViewRows, view_name: &[u8], variable_name: &[u32]) -> Found
+pub fn variable_row(
+    w: &[u8],
+    rows: ViewRows,
+    view_name: &[u8],
+    variable_name: &[u32],
+) -> Option<(usize, usize)>
     requires rows { RowsTo w.now rows }
     requires parts { length variable_name.now ≤ most_parts }
     ensures { Chosen View view_of w.now result
@@ -83,15 +83,12 @@ pub fn variable_row(w: &[u8], rows: ViewRows, view_name: &[u8], variable_name: &
 }
 
 // The same of a view whose name lies in the image.
-pub fn variable_row_in(w: &[u8], v: NamedView, variable_name: &[u32]) -> Found
+pub fn variable_row_in(w: &[u8], v: NamedView, variable_name: &[u32]) -> Option<(usize, usize)>
     requires view { ViewIn w.now v }
     requires parts { length variable_name.now ≤ most_parts }
     ensures { Chosen View view_of w.now result (chosen_view variable_name.now (rows_of w.now v)) }
 {
-    let from = v.from;
-    let to = v.to;
-    let rows = v.rows;
-    variable_row(w, rows, &w[from..to], variable_name)
+    variable_row(w, v.rows, &w[v.from..v.to], variable_name)
 }
 
 // Step 5 of such a variable: the decision on it by the view.
@@ -100,8 +97,7 @@ pub fn decide_variable_in(w: &[u8], v: NamedView, variable_name: &[u32]) -> Deci
     requires parts { length variable_name.now ≤ most_parts }
     ensures { result ≡ step5 variable_name.now (rows_of w.now v) }
 {
-    let row = variable_row_in(w, v, variable_name);
-    decision_parts::by_row(w, row)
+    decision_parts::by_row(w, variable_row_in(w, v, variable_name))
 }
 
 // The decision on tables that are known to be sound, of a variable in numbers, no more than 128 of them.
@@ -129,11 +125,7 @@ pub fn decide_variable(
         view_type,
         context_name,
     );
-    let standing = authorized.standing;
-    match standing {
-        Standing::Denied(cause) => Decision::Refused(cause),
-        Standing::Viewed(v) => decide_variable_in(w, v, variable_name),
-    }
+    decide_variable_in(w, authorized.standing?, variable_name)
 }
 
 // ---- the call
@@ -149,13 +141,12 @@ pub fn in_range(
 ) -> bool
     ensures { result ≡ in_range security_model security_name security_level view_type context_name variable }
 {
-    (1 <= security_model)
-        & (security_model <= MODEL_MAX)
-        & ((1 <= security_name) & (security_name <= LONGEST_NAME))
-        & ((NO_AUTH_NO_PRIV <= security_level) & (security_level <= AUTH_PRIV))
-        & ((READ <= view_type) & (view_type <= NOTIFY))
-        & (context_name <= LONGEST_NAME)
-        & ((1 <= variable) & (variable <= MOST_PARTS))
+    (1..=MODEL_MAX).contains(&security_model)
+        && (1..=LONGEST_NAME).contains(&security_name)
+        && (NO_AUTH_NO_PRIV..=AUTH_PRIV).contains(&security_level)
+        && (READ..=NOTIFY).contains(&view_type)
+        && context_name <= LONGEST_NAME
+        && (1..=MOST_PARTS).contains(&variable)
 }
 
 // The answer to a request on tables that are known to be sound: a field out of its range, or the decision.
@@ -181,9 +172,9 @@ pub fn answer_request(
         context_name.len(),
         variable_name.len(),
     ) {
-        return Answer::Faulty(Fault::OutOfRange);
+        return Err(Fault::OutOfRange);
     }
-    Answer::Decided(decide_variable(
+    Ok(decide_variable(
         w,
         l,
         security_model,
@@ -209,10 +200,7 @@ pub fn is_access_allowed(
         (asked security_model security_name.now security_level view_type context_name.now variable_name.now)
         store.now result }
 {
-    let surveyed = image::survey_store(store);
-    let Surveyed::Laid(l) = surveyed else {
-        return Answer::Faulty(Fault::NotSound);
-    };
+    let l = image::survey_store(store)?;
     answer_request(
         store,
         l,

@@ -4,11 +4,12 @@ use mathlib.Core.Path.{◌≡◌, refl, ap, ◌∙◌}
 use mathlib.Core.List.{List, [], map}
 use mathlib.Core.Option
 use mathlib.Core.Option.{Option, none, some}
-use Prim.Native.Nat.{ℕ, ◌+◌, ◌≤◌, ◌<◌}
+use Prim.Native.Nat.{ℕ, ◌+◌, ◌*◌, ◌≤◌, ◌<◌}
 use native.Mathlib.Omega.{arith}
 use lib.ListN.{length, drop}
 use lib.Dec.{ltb}
 use borrow.Author.Tests.{lt-ltb, le-ltb}
+use Rattle.std.specs.Prelude.{Some, None}
 use Rattle.numbers.specs.Scans.{better, best}
 use Rattle.rows.specs.declared.Table.TheVariants.{Access}
 use Rattle.rows.specs.Rows.{AccessRow, access_of}
@@ -20,11 +21,10 @@ use Rattle.decision_steps.specs.Decision.{chosen_access}
 use Rattle.decision_steps.specs.Bytes.{rank_of}
 use Rattle.decision_steps.proofs.Choices.{chosen-best}
 use Rattle.decision_steps.proofs.Layouts.{access-ranked}
-use Rattle.decision_find.specs.declared.Found.{Found}
-use Rattle.decision_find.specs.declared.Found.TheVariants.{Row, Nothing}
+use Rattle.decision_find.specs.Types.{Found}
 use Rattle.decision_find.specs.Found.{bytes_at, Chosen}
 use Rattle.decision_find.proofs.Chosen.{every_of, Held, held_none, held-row, chosen}
-use Rattle.decision_find.proofs.Scans.{Scan, scan-start, scan-row, scan-whole, scan-next, scan-end}
+use Rattle.decision_find.proofs.Scans.{Scan, scan-start, scan_in_place, scan-row, scan-whole, scan-next, scan-end}
 
 best-chosen : (group : List ℕ) (model level : ℕ) (context : List ℕ) (rows : List (List ℕ)) → table_fault Access [] rows ≡ none
     → best (rank_of group model level context) none (map access_of rows) ≡ chosen_access group model level context (map access_of rows)
@@ -56,17 +56,22 @@ abbrev best_from : (AccessRow → ℕ) → List ℕ → Found → List (List ℕ
 best_from rank w found rs = best rank (access w found) (map access_of rs)
 
 pub record Best (rank : AccessRow → ℕ) (w : List ℕ) (x : Extent) (i g o r : ℕ) (found : Found) : Type 0 where
-  pub scan : Scan Access w x (best_from rank w found) (best_from rank w Nothing (rows_in w x)) i g o
+  pub scan : Scan Access w x (best_from rank w found) (best_from rank w None (rows_in w x)) i g o
   pub held : Held Access w found
   pub ranked : r ≡ rank_in rank (access w found)
 
-pub best-start : (rank : AccessRow → ℕ) {w : List ℕ} {x : Extent} → SoundTable Access w x → Best rank w x 0 x.lengths x.rows 0 Nothing
-best-start rank {w} s = record { scan = scan-start (best_from rank w Nothing) s; held = held_none Access w; ranked = refl }
+pub best-start : (rank : AccessRow → ℕ) {w : List ℕ} {x : Extent} → SoundTable Access w x → Best rank w x 0 x.lengths x.rows 0 None
+best-start rank {w} s = record { scan = scan-start (best_from rank w None) s; held = held_none Access w; ranked = refl }
+
+-- by its row alone
+pub best_in_place : {rank : AccessRow → ℕ} {w : List ℕ} {x : Extent} {i g o r : ℕ} {found : Found} → Best rank w x i g o r found
+    → Best rank w x i (x.lengths + 2 * i) o r found
+best_in_place k = record { scan = scan_in_place k.scan; held = k.held; ranked = k.ranked }
 
 module _ {rank : AccessRow → ℕ} {w : List ℕ} {x : Extent} {i g o r : ℕ} {found : Found} (k : Best rank w x i g o r found)
     (h : i < x.count) (l : ℕ) (e : l ≡ pair (drop g w)) (q : ℕ) (d : q ≡ rank (access_of (piece w o (o + l)))) where
   -- the next row takes its place
-  pub best-above : r < q → Best rank w x (i + 1) (g + 2) (o + l) q (Row o (o + l))
+  pub best-above : r < q → Best rank w x (i + 1) (g + 2) (o + l) q (Some (o, (o + l)))
   best-above b = record {
     scan = scan-next k.scan h l e _ (λ rs. ap (λ u. best rank u (map access_of rs)) (better-above rank (access w found) _ (omega (arith, k.ranked))));
     held = held-row Access w o l (scan-row k.scan h l e) (scan-whole k.scan h l e);

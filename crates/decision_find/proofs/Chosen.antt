@@ -9,6 +9,7 @@ use mathlib.Core.Option.{Option, none, some}
 use Prim.Native.Nat.{ℕ, ◌+◌, ◌≤◌}
 use native.Mathlib.Omega.{arith}
 use lib.ListN.{length}
+use Rattle.std.specs.Prelude.{Some, None}
 use Rattle.numbers.specs.Lists.{every, OnSome, is_none}
 use Rattle.numbers.proofs.Options.{is-none}
 use Rattle.numbers.proofs.Keeps.{every-imp, every_map}
@@ -19,8 +20,7 @@ use Rattle.image_judge.specs.Faults.{table_fault}
 use Rattle.image_layout.proofs.Walks.{piece}
 use Rattle.image_judge.proofs.Sound.{every-whole}
 use Rattle.decision_steps.specs.Bytes.{Whole}
-use Rattle.decision_find.specs.declared.Found.{Found}
-use Rattle.decision_find.specs.declared.Found.TheVariants.{Row, Nothing}
+use Rattle.decision_find.specs.Types.{Found}
 use Rattle.decision_find.specs.Found.{bytes_at, Lies, FoundIn, Chosen}
 
 -- ---- whole rows
@@ -38,10 +38,10 @@ pub record Held (t : Table) (w : List ℕ) (found : Found) : Type 0 where
   pub lies : FoundIn w found
   pub whole : OnSome (Whole t) (bytes_at w found)
 
-pub held_none : (t : Table) (w : List ℕ) → Held t w Nothing
+pub held_none : (t : Table) (w : List ℕ) → Held t w None
 held_none t w = record { lies = tt; whole = tt }
 
-pub held-row : (t : Table) (w : List ℕ) (o l : ℕ) → o + l ≤ length w → Whole t (piece w o (o + l)) → Held t w (Row o (o + l))
+pub held-row : (t : Table) (w : List ℕ) (o l : ℕ) → o + l ≤ length w → Whole t (piece w o (o + l)) → Held t w (Some (o, (o + l)))
 held-row t w o l h e = record { lies = record { starts = omega arith; ends = h }; whole = e }
 
 pub chosen : {R : Type 0} {t : Table} {of : List ℕ → R} {w : List ℕ} {found : Found} {choice : Option R} → Held t w found
@@ -57,14 +57,14 @@ pub record RowAt {R : Type 0} (t : Table) (of : List ℕ → R) (w : List ℕ) (
   pub is : choice ≡ some (of (piece w a e))
 
 module _ {R : Type 0} {t : Table} {of : List ℕ → R} {w : List ℕ} {found : Found} {choice : Option R} (k : Chosen t of w found choice) where
-  pub chosen-row : {a e : ℕ} → found ≡ Row a e → Chosen t of w (Row a e) choice
+  pub chosen-row : {a e : ℕ} → found ≡ Some (a, e) → Chosen t of w (Some (a, e)) choice
   chosen-row q = rw q at k
 
-  pub row-at : {a e : ℕ} → found ≡ Row a e → RowAt t of w a e choice
+  pub row-at : {a e : ℕ} → found ≡ Some (a, e) → RowAt t of w a e choice
   row-at q = let c = chosen-row q in record { lies = c.lies; whole = c.whole; is = sym c.is }
 
-  pub no_row : found ≡ Nothing → choice ≡ none
-  no_row q = let c : Chosen t of w Nothing choice = rw q at k in sym c.is
+  pub no_row : found ≡ None → choice ≡ none
+  no_row q = let c : Chosen t of w None choice = rw q at k in sym c.is
 
   -- the same choice by another name
   pub chosen-as : {choice' : Option R} → choice ≡ choice' → Chosen t of w found choice'

@@ -9,6 +9,7 @@ use Prim.Native.Nat.{ℕ, ◌+◌, ◌-◌, ◌*◌, ◌≤◌, ◌<◌}
 use native.Mathlib.Omega.{arith}
 use lib.ListN.{take, drop, take-append-drop}
 use lib.Seq.{drop-drop}
+use Rattle.std.specs.Prelude.{Some, None}
 use Rattle.numbers.specs.Scans.{latest}
 use Rattle.numbers.proofs.Bools.{split}
 use Rattle.numbers.proofs.Scans.{latest-append, latest-some, latest-none}
@@ -23,8 +24,7 @@ use Rattle.image_judge.proofs.Sound.{ascends-rows}
 use Rattle.decision_steps.specs.Decision.{chosen_view}
 use Rattle.decision_steps.proofs.Choices.{chosen-latest-of}
 use Rattle.decision_views.specs.Matching.{matching}
-use Rattle.decision_find.specs.declared.Found.{Found}
-use Rattle.decision_find.specs.declared.Found.TheVariants.{Row, Nothing}
+use Rattle.decision_find.specs.Types.{Found}
 use Rattle.decision_find.specs.Found.{Chosen, rows_of_view}
 use Rattle.decision_find.specs.OnePass.{passed, Carried, NextRow, carry, OnePass, InOnePass}
 use Rattle.decision_find.proofs.Backwards.{row-whole, rest-drop, back_start, back-place, back-walk, back-drop}
@@ -49,15 +49,15 @@ module _ (name variable : List ℕ) {w : List ℕ} {x : Extent} (t : SoundTable 
     latest-next : latest fits none (behind (i - 1)) ≡ latest fits (cond (fits (view_of row)) (some (view_of row)) none) (behind i)
     latest-next = ap (λ rs. latest fits none (map view_of rs)) n.is
 
-    step_row : (a e : ℕ) → Carried name variable w x i (Row a e) → Carried name variable w x (i - 1) (Row a e)
+    step_row : (a e : ℕ) → Carried name variable w x i (Some (a, e)) → Carried name variable w x (i - 1) (Some (a, e))
     step_row a e k =
         let y = view_of (take (e - a) (drop a w)) in
         let l : latest fits none (behind i) ≡ some y = passed-latest i ∙ sym k.is.is in
         let m = latest-next ∙ latest-some fits _ (behind i) y l in
         record { is = record { lies = k.is.lies; whole = k.is.whole; is = sym m ∙ passed-latest (i - 1) } }
 
-    step-nothing : Carried name variable w x i Nothing
-        → Carried name variable w x (i - 1) (cond (fits (view_of row)) (Row at end) Nothing)
+    step-nothing : Carried name variable w x i None
+        → Carried name variable w x (i - 1) (cond (fits (view_of row)) (Some (at, end)) None)
     step-nothing k =
         let l : latest fits none (behind i) ≡ none = passed-latest i ∙ sym k.is.is in
         let m = latest-next ∙ latest-none fits _ (behind i) l in
@@ -65,18 +65,18 @@ module _ (name variable : List ℕ) {w : List ℕ} {x : Extent} (t : SoundTable 
         (λ q. rw q (record { is = record { lies = n.lies; whole = row-whole t (i - 1) n.is; is = sym (rw q at m) ∙ passed-latest (i - 1) } }))
         (λ q. rw q (record { is = chosen (held_none View w) (sym (rw q at m) ∙ passed-latest (i - 1)) }))
 
-  pass-start : Carried name variable w x x.count Nothing
+  pass-start : Carried name variable w x x.count None
   pass-start =
       let k = back_start w x refl refl refl in
       let z : drop x.count (rows_in w x) ≡ [] = sym (rest-drop k) ∙ rest_end k (omega arith) in
       record { is = chosen (held_none View w) (ap (λ rs. latest fits none (map view_of rs)) (sym z) ∙ passed-latest x.count) }
 
   pass_step : (i at end : ℕ) (found : Found) → NextRow w x i at end → Carried name variable w x i found
-      → Carried name variable w x (i - 1) (carry found (fits (view_of (take (end - at) (drop at w)))) (Row at end))
-  pass_step i at end (Row a e) n k = step_row i at end n a e k
-  pass_step i at end Nothing n k = step-nothing i at end n k
+      → Carried name variable w x (i - 1) (carry found (fits (view_of (take (end - at) (drop at w)))) (Some (at, end)))
+  pass_step i at end (Some (a, e)) n k = step_row i at end n a e k
+  pass_step i at end None n k = step-nothing i at end n k
 
-  pass-stays : (i j at end : ℕ) → j ≤ i → Carried name variable w x i (Row at end) → Carried name variable w x j (Row at end)
+  pass-stays : (i j at end : ℕ) → j ≤ i → Carried name variable w x i (Some (at, end)) → Carried name variable w x j (Some (at, end))
   pass-stays i j at end h k =
       let y = view_of (take (end - at) (drop at w)) in
       let l : latest fits none (behind i) ≡ some y = passed-latest i ∙ sym k.is.is in
@@ -99,18 +99,18 @@ in-one-pass name variable w x t = record { start = pass-start name variable t; s
 
 pub record Passing (name variable w : List ℕ) (x : Extent) (i g e : ℕ) : Type 0 where
   pub walk : Walk w x i g e
-  pub carried : Carried name variable w x i Nothing
+  pub carried : Carried name variable w x i None
 
 module _ (name variable : List ℕ) {w : List ℕ} {x : Extent} (t : SoundTable View w x) where
   abbrev pass : OnePass name variable w x
   pass = in-one-pass name variable w x t
 
   pub passing-start : {n g e : ℕ} → x.count ≡ n → x.lengths + 2 * x.count ≡ g → e ≡ end_of w x → Passing name variable w x n g e
-  passing-start {n} c q r = record { walk = back_start w x c q r; carried = subst (λ m. Carried name variable w x m Nothing) c pass.start }
+  passing-start {n} c q r = record { walk = back_start w x c q r; carried = subst (λ m. Carried name variable w x m None) c pass.start }
 
   module _ {i g e : ℕ} (k : Passing name variable w x i g e) where
     -- none is left in front
-    pub passing-none : i ≤ 0 → Chosen View view_of w Nothing (chosen_view variable (rows_of_view name w x))
+    pub passing-none : i ≤ 0 → Chosen View view_of w None (chosen_view variable (rows_of_view name w x))
     passing-none h = let z : i ≡ 0 = omega arith in rw z at k.carried.is
 
     -- the row before e, of length l
@@ -123,10 +123,10 @@ module _ (name variable : List ℕ) {w : List ℕ} {x : Extent} (t : SoundTable 
       }
 
       pub passing-next : matching name variable (view_of (piece w (e - l) e)) ≡ false → Passing name variable w x (i - 1) (g - 2) (e - l)
-      passing-next n = record { walk = back-walk k.walk h l q; carried = rw n at (pass.step i (e - l) e Nothing next k.carried) }
+      passing-next n = record { walk = back-walk k.walk h l q; carried = rw n at (pass.step i (e - l) e None next k.carried) }
 
       pub passing-found : matching name variable (view_of (piece w (e - l) e)) ≡ true
-          → Chosen View view_of w (Row (e - l) e) (chosen_view variable (rows_of_view name w x))
+          → Chosen View view_of w (Some ((e - l), e)) (chosen_view variable (rows_of_view name w x))
       passing-found n =
-          let c : Carried name variable w x (i - 1) (Row (e - l) e) = rw n at (pass.step i (e - l) e Nothing next k.carried) in
+          let c : Carried name variable w x (i - 1) (Some ((e - l), e)) = rw n at (pass.step i (e - l) e None next k.carried) in
           (pass.stays (i - 1) 0 (e - l) e (omega arith) c).is

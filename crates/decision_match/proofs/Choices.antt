@@ -7,6 +7,7 @@ use mathlib.Core.Option.{Option}
 use Prim.Native.Nat.{ℕ, ◌≤◌}
 use native.Mathlib.Omega.{arith}
 use lib.ListN.{length}
+use Rattle.std.specs.Prelude.{Err}
 use Rattle.answers.specs.declared.Fault.{Fault}
 use Rattle.numbers.proofs.Bools.{and_left, and_right}
 use Rattle.rows.specs.Fields.{within}
@@ -15,7 +16,6 @@ use Rattle.rows.specs.Tables.{Tables}
 use Rattle.rows.proofs.Sound.{within-least, within-most}
 use Rattle.image_layout.specs.declared.Layout.{Layout}
 use Rattle.image_layout.specs.Layout.{rows_in, layout_of}
-use Rattle.image_judge.specs.declared.Surveyed.TheVariants.{Bad}
 use Rattle.image_judge.specs.Faults.{surveyed, tables_at}
 use Rattle.image.specs.Store.{call_fault, held}
 use Rattle.image.proofs.Surveys.{Called, call-refused}
@@ -28,17 +28,17 @@ use Rattle.decision_match.specs.Matches.{faulty, chosen, choice, legal_view, vie
 -- ---- a call refused, of any table
 
 module _ (w : List ℕ) {f : Fault} where
-  choice-refused : {R : Type 0} (legal : Bool) (choose : Tables → Option R) → Bad f ≡ surveyed (call_fault w legal) (layout_of w)
+  choice-refused : {R : Type 0} (legal : Bool) (choose : Tables → Option R) → Err f ≡ surveyed (call_fault w legal) (layout_of w)
       → choice (held w) legal choose ≡ faulty f
   choice-refused legal choose e = call-refused (λ g. choice (held w) legal choose ≡ faulty g) w legal e (λ n. rw n) (λ t h l. rw (h, l))
 
-  pub view-refused : (name variable : List ℕ) → Bad f ≡ surveyed (call_fault w (legal_view (length name) (length variable))) (layout_of w)
+  pub view-refused : (name variable : List ℕ) → Err f ≡ surveyed (call_fault w (legal_view (length name) (length variable))) (layout_of w)
       → view_choice (held w) name variable ≡ faulty f
   unfolding view_choice
   view-refused name variable e = choice-refused (legal_view (length name) (length variable)) _ e
 
   pub access-refused : (group context : List ℕ) (model level : ℕ)
-      → Bad f ≡ surveyed (call_fault w (legal_access (length group) (length context) model level)) (layout_of w)
+      → Err f ≡ surveyed (call_fault w (legal_access (length group) (length context) model level)) (layout_of w)
       → access_choice (held w) group context model level ≡ faulty f
   unfolding access_choice
   access-refused group context model level e = choice-refused (legal_access (length group) (length context) model level) _ e

@@ -2,6 +2,7 @@
 -- Assumes nothing.
 use Rattle.std.specs.Prelude.{◌≡◌, Bool, true, cond, ◌&&◌, List, [], ◌∷◌, ℕ, leb, length}
 use Rattle.std.proofs.Math.Option.{Option, none, some}
+use Rattle.std.specs.Prelude.{Ok, Err, Some, None}
 use Rattle.answers.specs.declared.Fault.{Fault}
 use Rattle.answers.specs.declared.Fault.TheVariants.{NotSound, OutOfRange}
 use Rattle.numbers.specs.Laid.{laid}
@@ -13,8 +14,8 @@ use Rattle.rows.specs.Tables.{Tables}
 use Rattle.image.specs.Store.{held}
 use Rattle.decision_steps.specs.Request.{longest_name, most_parts, no_auth_no_priv, auth_priv}
 use Rattle.decision_steps.specs.Decision.{chosen_access, view_rows, chosen_view}
-use Rattle.decision_match.specs.declared.ViewMatch.{ViewMatch}
-use Rattle.decision_match.specs.declared.AccessMatch.{AccessMatch}
+use Rattle.decision_match.specs.Types.{ViewMatch}
+use Rattle.decision_match.specs.Types.{AccessMatch}
 use Rattle.decision_match.specs.Numbers.{view_match_number, access_match_number}
 
 -- what such a call comes to: a fault, or the row chosen, if any is
@@ -62,14 +63,14 @@ key_bytes t fields = row_bytes (key_fields t) fields
 -- ---- the answers
 
 abbrev pub view_match : Choice ViewRow → ViewMatch
-view_match (faulty f) = ViewMatch.Faulty f
-view_match (chosen none) = ViewMatch.Nothing
-view_match (chosen (some r)) = ViewMatch.Row (length (key_bytes View (view_key_of r))) r.family_type
+view_match (faulty f) = Err f
+view_match (chosen none) = (Ok None)
+view_match (chosen (some r)) = Ok (Some ((length (key_bytes View (view_key_of r))), r.family_type))
 
 abbrev pub access_match : Choice AccessRow → AccessMatch
-access_match (faulty f) = AccessMatch.Faulty f
-access_match (chosen none) = AccessMatch.Nothing
-access_match (chosen (some r)) = AccessMatch.Row (length (key_bytes Access (access_key_of r)))
+access_match (faulty f) = Err f
+access_match (chosen none) = (Ok None)
+access_match (chosen (some r)) = Ok (Some (length (key_bytes Access (access_key_of r))))
 
 -- the lent room: the key, and behind it as found; a fault and none leave it as found
 abbrev pub lent : {R : Type 0} → (R → List ℕ) → Choice R → List ℕ → List ℕ

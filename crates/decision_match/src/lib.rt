@@ -18,47 +18,22 @@ ghost use Rattle.decision_match.specs.Numbers.{view_match_number, access_match_n
 
 use answers::Fault;
 use decision::{AUTH_PRIV, LONGEST_NAME, MOST_PARTS, NO_AUTH_NO_PRIV};
-use decision_find::{Found, ViewRows};
-use image_judge::Surveyed;
+use decision_find::ViewRows;
 use image_layout::Extent;
-use rows::{KEY_MAX, MODEL_MAX, Step, Table};
-
-// Which view row decides: the length of its key and its type, or that none matches.
-#[derive(Clone, Copy)]
-pub enum ViewMatch {
-    Row(usize, u8),
-    Nothing,
-    Faulty(Fault),
-}
-
-// Which access row is chosen: the length of its key, or that there is no candidate.
-#[derive(Clone, Copy)]
-pub enum AccessMatch {
-    Row(usize),
-    Nothing,
-    Faulty(Fault),
-}
+use rows::{KEY_MAX, MODEL_MAX, Table};
 
 // The number of document 01 for an answer.
-pub fn view_match_number(m: ViewMatch) -> u32
+pub fn view_match_number(m: Result<Option<(usize, u8)>, Fault>) -> u32
     ensures { result ≡ view_match_number m }
 {
-    match m {
-        ViewMatch::Row(_, _) => 0,
-        ViewMatch::Nothing => 0,
-        ViewMatch::Faulty(f) => answers::fault_number(f),
-    }
+    answers::result_number(m)
 }
 
 // The number of document 01 for an answer.
-pub fn access_match_number(m: AccessMatch) -> u32
+pub fn access_match_number(m: Result<Option<usize>, Fault>) -> u32
     ensures { result ≡ access_match_number m }
 {
-    match m {
-        AccessMatch::Row(_) => 0,
-        AccessMatch::Nothing => 0,
-        AccessMatch::Faulty(f) => answers::fault_number(f),
-    }
+    answers::result_number(m)
 }
 
 // ---- a row's key
@@ -70,8 +45,7 @@ fn hand_key(t: Table, row: &[u8], key: &mut [u8]) -> usize
     ensures counts { result ≡ span (key_fields t) row.now }
     ensures lays { key.new ≡ laid 0 (take result row.now) key.old }
 {
-    let judged = rows::judge_front(t, row);
-    let Step::At(n) = judged else {
+    let Ok(n) = rows::judge_front(t, row) else {
         // a row of a sound store is whole
         return 0;
     };
@@ -84,8 +58,7 @@ fn hand_key(t: Table, row: &[u8], key: &mut [u8]) -> usize
 fn is_legal_view(view_name: usize, variable_name: usize) -> bool
     ensures { result ≡ legal_view view_name variable_name }
 {
-    ((1 <= view_name) & (view_name <= LONGEST_NAME))
-        & ((1 <= variable_name) & (variable_name <= MOST_PARTS))
+    (1..=LONGEST_NAME).contains(&view_name) && (1..=MOST_PARTS).contains(&variable_name)
 }
 
 // Among the rows of a sound table.
@@ -95,7 +68,7 @@ fn view_row(
     view_name: &[u8],
     variable_name: &[u32],
     key: &mut [u8],
-) -> ViewMatch
+) -> Result<Option<(usize, u8)>, Fault>
     requires rows { SoundTable View w.now x }
     requires parts { length variable_name.now ≤ most_parts }
     requires room { key_max ≤ length key.old }
@@ -105,12 +78,11 @@ fn view_row(
 {
     let end = image_layout::end_of(w, x);
     let rows = ViewRows { rows: x, end };
-    let found = decision::variable_row(w, rows, view_name, variable_name);
-    let Found::Row(at, to) = found else {
-        return ViewMatch::Nothing;
+    let Some((at, to)) = decision::variable_row(w, rows, view_name, variable_name) else {
+        return Ok(None);
     };
     let k = hand_key(Table::View, &w[at..to], key);
-    ViewMatch::Row(k, decision_views::family_type(&w[at..to]))
+    Ok(Some((k, decision_views::family_type(&w[at..to]))))
 }
 
 // The row of a view that decides on the variable; its key at the front of `key`.
@@ -119,14 +91,12 @@ pub fn match_view(
     view_name: &[u8],
     variable_name: &[u32],
     key: &mut [u8; KEY_MAX],
-) -> ViewMatch
+) -> Result<Option<(usize, u8)>, Fault>
     ensures { MatchesView store.now view_name.now variable_name.now key.old key.new result }
 {
     let legal = is_legal_view(view_name.len(), variable_name.len());
-    match image::survey_call(store, legal) {
-        Surveyed::Laid(l) => view_row(store, l.views, view_name, variable_name, key),
-        Surveyed::Bad(f) => ViewMatch::Faulty(f),
-    }
+    let l = image::survey_call(store, legal)?;
+    view_row(store, l.views, view_name, variable_name, key)
 }
 
 // ---- step 3
@@ -139,10 +109,10 @@ fn is_legal_access(
 ) -> bool
     ensures { result ≡ legal_access group_name context_name security_model security_level }
 {
-    ((1 <= group_name) & (group_name <= LONGEST_NAME))
-        & (context_name <= LONGEST_NAME)
-        & ((1 <= security_model) & (security_model <= MODEL_MAX))
-        & ((NO_AUTH_NO_PRIV <= security_level) & (security_level <= AUTH_PRIV))
+    (1..=LONGEST_NAME).contains(&group_name)
+        && context_name <= LONGEST_NAME
+        && (1..=MODEL_MAX).contains(&security_model)
+        && (NO_AUTH_NO_PRIV..=AUTH_PRIV).contains(&security_level)
 }
 
 // Among the rows of a sound table.
@@ -154,7 +124,7 @@ fn access_row(
     security_model: u32,
     security_level: u32,
     key: &mut [u8],
-) -> AccessMatch
+) -> Result<Option<usize>, Fault>
     requires rows { SoundTable Access w.now x }
     requires room { key_max ≤ length key.old }
     ensures { HandsAccess
@@ -170,10 +140,10 @@ fn access_row(
         security_level as usize,
         context_name,
     );
-    let Found::Row(at, end) = found else {
-        return AccessMatch::Nothing;
+    let Some((at, end)) = found else {
+        return Ok(None);
     };
-    AccessMatch::Row(hand_key(Table::Access, &w[at..end], key))
+    Ok(Some(hand_key(Table::Access, &w[at..end], key)))
 }
 
 // The access row chosen for the group, the context, the model and the level; its key at the front of `key`.
@@ -184,7 +154,7 @@ pub fn match_access(
     security_model: u32,
     security_level: u32,
     key: &mut [u8; KEY_MAX],
-) -> AccessMatch
+) -> Result<Option<usize>, Fault>
     ensures { MatchesAccess store.now group_name.now context_name.now security_model security_level
         key.old key.new result }
 {
@@ -194,16 +164,14 @@ pub fn match_access(
         security_model,
         security_level,
     );
-    match image::survey_call(store, legal) {
-        Surveyed::Laid(l) => access_row(
-            store,
-            l.accesses,
-            group_name,
-            context_name,
-            security_model,
-            security_level,
-            key,
-        ),
-        Surveyed::Bad(f) => AccessMatch::Faulty(f),
-    }
+    let l = image::survey_call(store, legal)?;
+    access_row(
+        store,
+        l.accesses,
+        group_name,
+        context_name,
+        security_model,
+        security_level,
+        key,
+    )
 }

@@ -2,8 +2,8 @@
 use mathlib.Core.Path.{◌≡◌, sym, ap, ◌∙◌}
 use mathlib.Core.List.{List}
 use Prim.Native.Nat.{ℕ}
+use Rattle.std.specs.Prelude.{Ok, Err}
 use Rattle.answers.specs.declared.Cause.{Cause}
-use Rattle.answers.specs.declared.Decision.TheVariants.{Refused}
 use Rattle.image_layout.specs.declared.Layout.{Layout}
 use Rattle.image_judge.specs.Faults.{tables_at}
 use Rattle.decision_steps.specs.Request.{asked}
@@ -11,7 +11,6 @@ use Rattle.decision_steps.specs.Decision.{step5, decision, by_authority}
 use Rattle.decision_steps.proofs.Parts.{decision-parts}
 use Rattle.decision_parts.specs.declared.NamedView.{NamedView}
 use Rattle.decision_parts.specs.declared.Authorized.{Authorized}
-use Rattle.decision_parts.specs.declared.Standing.TheVariants.{Denied, Viewed}
 use Rattle.decision_parts.specs.Parts.{ViewIn, rows_of, saying, Authorizes}
 
 module _ {w : List ℕ} {l : Layout} {model : ℕ} {name : List ℕ} {level view : ℕ} {context : List ℕ} {r : Authorized}
@@ -20,13 +19,13 @@ module _ {w : List ℕ} {l : Layout} {model : ℕ} {name : List ℕ} {level view
   by-standing variable =
       ap (by_authority variable) k.standing.is ∙ sym (decision-parts (tables_at w l) (asked model name level view context variable))
 
-  pub denied-decision : {cause : Cause} (variable : List ℕ) → r.standing ≡ Denied cause
-      → Refused cause ≡ decision (tables_at w l) (asked model name level view context variable)
+  pub denied-decision : {cause : Cause} (variable : List ℕ) → r.standing ≡ Err cause
+      → Err cause ≡ decision (tables_at w l) (asked model name level view context variable)
   denied-decision variable e = sym (ap (λ u. by_authority variable (saying w u)) e) ∙ by-standing variable
 
-  pub viewed-decision : {v : NamedView} (variable : List ℕ) → r.standing ≡ Viewed v
+  pub viewed-decision : {v : NamedView} (variable : List ℕ) → r.standing ≡ Ok v
       → step5 variable (rows_of w v) ≡ decision (tables_at w l) (asked model name level view context variable)
   viewed-decision variable e = sym (ap (λ u. by_authority variable (saying w u)) e) ∙ by-standing variable
 
-  pub viewed-in : {v : NamedView} → r.standing ≡ Viewed v → ViewIn w v
+  pub viewed-in : {v : NamedView} → r.standing ≡ Ok v → ViewIn w v
   viewed-in e = let s = rw e at k.standing in s.lies

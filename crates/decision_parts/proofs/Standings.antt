@@ -2,33 +2,35 @@
 -- Step 4: the empty name names no view; of any other the rows up to the last of the view hold all its rows, so that there is a view where such a row is.
 -- Steps 1 to 3: each goes on with what it finds and is denied where that is nothing, so one law a step says what it comes to. Assumes nothing.
 use mathlib.Core.Path.{◌≡◌, refl, sym, ap, ◌∙◌}
+use mathlib.Core.Bool.{true, false}
 use mathlib.Core.List.{List, [], ◌∷◌, map}
 use mathlib.Core.Option.{Option, none, some}
 use Prim.Native.Nat.{ℕ, zero, suc, ◌+◌, ◌-◌, ◌≤◌}
 use native.Mathlib.Omega.{arith}
 use lib.ListN.{length, take, drop, length-drop}
 use lib.Seq.{length-take-le, take-take, drop-drop}
-use borrow.Author.Tests.{lt-ltb, le-ltb}
+use borrow.Author.Tests.{lt-ltb}
+use Rattle.std.specs.Prelude.{Ok, Err, Some, None}
+use Rattle.std.specs.Option.{is_some}
 use Rattle.answers.specs.declared.Cause.TheVariants.{NoSuchContext, NoGroupName, NoAccessEntry, NoSuchView}
 use Rattle.numbers.specs.Lists.{keep, find}
 use Rattle.numbers.proofs.Bools.{clash}
-use Rattle.numbers.proofs.Keeps.{any-keep, keep-any}
+use Rattle.numbers.proofs.Keeps.{keep-any}
+use Rattle.rows.specs.declared.Table.{Table}
 use Rattle.rows.specs.declared.Table.TheVariants.{Mapping, Access}
 use Rattle.rows.specs.Rows.{ContextRow, MappingRow, AccessRow, ViewRow, context_of, mapping_of, access_of, view_of}
 use Rattle.image_layout.specs.declared.Extent.{Extent}
 use Rattle.image_layout.specs.declared.Layout.{Layout}
 use Rattle.image_layout.specs.Layout.{rows_in}
-use Rattle.image_layout.proofs.Walks.{piece-nil}
+use Rattle.image_layout.proofs.Walks.{piece}
 use Rattle.image_judge.specs.Faults.{tables_at}
 use Rattle.decision_steps.specs.Decision.{bears_context, maps_principal, chosen_access, view_for, in_view, view_rows, if_any}
 use Rattle.decision_steps.specs.Decision.{Authority, denied, viewed, or_denied, authority, mapping_row, access_row}
-use Rattle.decision_find.specs.declared.Found.{Found}
-use Rattle.decision_find.specs.declared.Found.TheVariants.{Nothing}
+use Rattle.decision_find.specs.Types.{Found}
 use Rattle.decision_find.specs.declared.ViewRows.{ViewRows}
 use Rattle.decision_find.specs.Found.{Lies, Chosen, rows_of_view, ToLast}
-use Rattle.decision_find.proofs.Chosen.{held_none, chosen, chosen-as}
-use Rattle.decision_parts.specs.declared.Standing.{Standing}
-use Rattle.decision_parts.specs.declared.Standing.TheVariants.{Denied, Viewed}
+use Rattle.decision_find.proofs.Chosen.{held_none, chosen, chosen-as, row-at, no_row}
+use Rattle.decision_parts.specs.Types.{Standing}
 use Rattle.decision_parts.specs.Parts.{part, over_rows, Says, Authorizes}
 
 -- ---- a part of a part
@@ -66,27 +68,14 @@ view-named [] rs h = absurd (h refl)
 view-named (x ∷ name) rs h = refl
 
 module _ (w : List ℕ) (views : Extent) (from to : ℕ) where
-  pub name-empty : from ≡ to → Says w (Denied NoSuchView) (over_rows (part w from to) (map view_of (rows_in w views)))
-  unfolding over
-  name-empty e =
-      let z : part w from to ≡ [] = rw e (piece-nil w to) in
-      record { lies = tt; is = ap (λ n. over (view_rows n (map view_of (rows_in w views)))) (sym z) }
-
   module _ (h : from ≡ to → ⊥) (p : Lies w from to) {v : ViewRows} (k : ToLast (part w from to) w views v) where
     named : keep (in_view (part w from to)) (map view_of (rows_in w views)) ≡ view_rows (part w from to) (map view_of (rows_in w views))
     named =
         view-named (part w from to) (map view_of (rows_in w views))
         (λ z. h (omega (arith, p.starts, p.ends, length-take-le (to - from) (drop from w) (omega (arith, p.starts, p.ends, length-drop from w)))))
 
-    pub view-none : v.rows.count ≡ 0 → Says w (Denied NoSuchView) (over_rows (part w from to) (map view_of (rows_in w views)))
-    unfolding over
-    view-none z = record {
-      lies = tt;
-      is = ap over (sym (any-keep (in_view (part w from to)) (map view_of (rows_in w views)) (k.some ∙ le-ltb 0 v.rows.count (omega arith))) ∙ named);
-    }
-
     pub view-some : (v.rows.count ≡ 0 → ⊥)
-        → Says w (Viewed (record { from = from; to = to; rows = v })) (over_rows (part w from to) (map view_of (rows_in w views)))
+        → Says w (Ok (record { from = from; to = to; rows = v })) (over_rows (part w from to) (map view_of (rows_in w views)))
     unfolding over
     view-some z = record {
       lies = record { named = p; lies = k.lies };
@@ -97,6 +86,16 @@ module _ (w : List ℕ) (views : Extent) (from to : ℕ) where
     }
 
 -- ---- steps 1 to 3
+
+-- whether a row was found says whether there is one to choose
+module _ {R : Type 0} {t : Table} {of : List ℕ → R} {w : List ℕ} {choice : Option R} where
+  pub none-found : (found : Found) → Chosen t of w found choice → is_some found ≡ false → choice ≡ none
+  none-found (Some (a, e)) k h = clash refl h
+  none-found None k h = no_row k refl
+
+  pub one-found : (found : Found) → Chosen t of w found choice → is_some found ≡ true → (r : R) × (choice ≡ some r)
+  one-found (Some (a, e)) k h = (of (piece w a e), (row-at k refl).is)
+  one-found None k h = clash h refl
 
 module _ (w : List ℕ) (l : Layout) (model : ℕ) (name : List ℕ) (level view : ℕ) (context : List ℕ) where
   abbrev context_choice : Option ContextRow
@@ -125,7 +124,7 @@ module _ (w : List ℕ) (l : Layout) (model : ℕ) (name : List ℕ) (level view
 
   -- step 1 finds nothing
   pub denied-context : context_choice ≡ none
-      → Authorizes w l model name level view context (record { mapping = Nothing; access = Nothing; standing = Denied NoSuchContext })
+      → Authorizes w l model name level view context (record { mapping = None; access = None; standing = Err NoSuchContext })
   denied-context e = record {
     mapping = chosen (held_none Mapping w) (no_mapping e);
     access = chosen (held_none Access w) (no_access (sym (no_mapping e)));
@@ -143,7 +142,7 @@ module _ (w : List ℕ) (l : Layout) (model : ℕ) (name : List ℕ) (level view
 
     -- step 2
     pub denied-group : mapping_choice ≡ none
-        → Authorizes w l model name level view context (record { mapping = m; access = Nothing; standing = Denied NoGroupName })
+        → Authorizes w l model name level view context (record { mapping = m; access = None; standing = Err NoGroupName })
     denied-group f = record {
       mapping = chosen-as g mapping_is;
       access = chosen (held_none Access w) (no_access (sym mapping_is ∙ f));
@@ -169,7 +168,7 @@ module _ (w : List ℕ) (l : Layout) (model : ℕ) (name : List ℕ) (level view
 
       -- step 3
       pub denied-entry : access_choice r ≡ none
-          → Authorizes w l model name level view context (record { mapping = m; access = a; standing = Denied NoAccessEntry })
+          → Authorizes w l model name level view context (record { mapping = m; access = a; standing = Err NoAccessEntry })
       denied-entry h = authorizes (record { lies = tt; is = no-entry h })
 
       -- step 4 of the access row

@@ -1,5 +1,6 @@
 -- The two parts of a decision, as the code has them: a standing with places in the bytes of an image, where the definition has rows. Assumes nothing.
 use Rattle.std.specs.Prelude.{◌≡◌, List, ℕ, ◌-◌, take, drop}
+use Rattle.std.specs.Prelude.{Ok, Err}
 use Rattle.answers.specs.declared.Cause.TheVariants.{NoSuchView}
 use Rattle.rows.specs.declared.Table.TheVariants.{Mapping, Access}
 use Rattle.rows.specs.Rows.{ViewRow, mapping_of, access_of}
@@ -8,8 +9,7 @@ use Rattle.image_judge.specs.Faults.{tables_at}
 use Rattle.decision_steps.specs.Decision.{view_rows, if_any, Authority, denied, viewed, or_denied, authority, mapping_row, access_row}
 use Rattle.decision_find.specs.Found.{Lies, Chosen, rows_of_view, RowsTo}
 use Rattle.decision_parts.specs.declared.NamedView.{NamedView}
-use Rattle.decision_parts.specs.declared.Standing.{Standing}
-use Rattle.decision_parts.specs.declared.Standing.TheVariants.{Denied, Viewed}
+use Rattle.decision_parts.specs.Types.{Standing}
 use Rattle.decision_parts.specs.declared.Authorized.{Authorized}
 
 abbrev pub part : List ℕ → ℕ → ℕ → List ℕ
@@ -29,12 +29,12 @@ over_rows name rs = or_denied NoSuchView (if_any (view_rows name rs)) viewed
 
 -- what a standing says
 abbrev pub saying : List ℕ → Standing → Authority
-saying w (Denied cause) = denied cause
-saying w (Viewed v) = viewed (rows_of w v)
+saying w (Err cause) = denied cause
+saying w (Ok v) = viewed (rows_of w v)
 
 abbrev pub StandingIn : List ℕ → Standing → Type 0
-StandingIn w (Denied cause) = Unit {0}
-StandingIn w (Viewed v) = ViewIn w v
+StandingIn w (Err cause) = Unit {0}
+StandingIn w (Ok v) = ViewIn w v
 
 pub record Says (w : List ℕ) (r : Standing) (authority : Authority) : Type 0 where
   pub lies : StandingIn w r

@@ -16,7 +16,7 @@ ghost use Rattle.decision_find.specs.Found.{bytes_at, Lies, FoundIn, Chosen};
 ghost use Rattle.decision_parts.specs.Parts.{part, ViewIn, rows_of, over_rows, Says, Authorizes};
 
 use answers::{Cause, Decision};
-use decision_find::{Found, ViewRows};
+use decision_find::ViewRows;
 use decision_views::INCLUDED;
 use image_layout::{Extent, Layout};
 
@@ -28,42 +28,40 @@ pub struct NamedView {
     pub rows: ViewRows,
 }
 
-// What steps 1 to 4 come to.
-#[derive(Clone, Copy)]
-pub enum Standing {
-    Denied(Cause),
-    Viewed(NamedView),
-}
-
 // That, and the rows that steps 2 and 3 chose, as far as the steps got.
 #[derive(Clone, Copy)]
 pub struct Authorized {
-    pub mapping: Found,
-    pub access: Found,
-    pub standing: Standing,
+    pub mapping: Option<(usize, usize)>,
+    pub access: Option<(usize, usize)>,
+    pub standing: Result<NamedView, Cause>,
 }
 
 // ---- step 4
 
 // The view whose name lies from `from` to `to`; the empty name means none.
-fn by_name(w: &[u8], views: Extent, from: usize, to: usize) -> Standing
+fn by_name(w: &[u8], views: Extent, from: usize, to: usize) -> Result<NamedView, Cause>
     requires name { Lies w.now from to }
     requires rows { SoundTable View w.now views }
     ensures { Says w.now result (over_rows (part w.now from to) (map view_of (rows_in w.now views))) }
 {
     if from == to {
-        return Standing::Denied(Cause::NoSuchView);
+        return Err(Cause::NoSuchView);
     }
     let rows = decision_find::find_view(w, views, &w[from..to]);
-    let x = rows.rows;
-    if x.count == 0 {
-        return Standing::Denied(Cause::NoSuchView);
+    if rows.rows.count == 0 {
+        return Err(Cause::NoSuchView);
     }
-    Standing::Viewed(NamedView { from, to, rows })
+    Ok(NamedView { from, to, rows })
 }
 
 // The view that the access row from `at` to `end` names for the view type.
-fn by_access(w: &[u8], views: Extent, at: usize, end: usize, view_type: u32) -> Standing
+fn by_access(
+    w: &[u8],
+    views: Extent,
+    at: usize,
+    end: usize,
+    view_type: u32,
+) -> Result<NamedView, Cause>
     requires place { Lies w.now at end }
     requires whole { Whole Access (part w.now at end) }
     requires rows { SoundTable View w.now views }
@@ -85,7 +83,7 @@ fn access_of(
     security_model: usize,
     security_level: usize,
     context_name: &[u8],
-) -> Found
+) -> Option<(usize, usize)>
     requires rows { SoundTable Access w.now accesses }
     requires whole { Whole Mapping row.now }
     ensures { Chosen Access access_of w.now result
@@ -121,75 +119,64 @@ pub fn authorize(
     ensures { Authorizes w.now l security_model security_name.now security_level view_type
         context_name.now result }
 {
-    let contexts = l.contexts;
-    let context = decision_find::find_context(w, contexts, context_name);
-    let Found::Row(_, _) = context else {
+    if decision_find::find_context(w, l.contexts, context_name).is_none() {
         return Authorized {
-            mapping: Found::Nothing,
-            access: Found::Nothing,
-            standing: Standing::Denied(Cause::NoSuchContext),
+            mapping: None,
+            access: None,
+            standing: Err(Cause::NoSuchContext),
         };
-    };
-    let mappings = l.mappings;
-    let mapping = decision_find::find_mapping(w, mappings, security_model, security_name);
-    let Found::Row(a, e) = mapping else {
+    }
+    let mapping = decision_find::find_mapping(w, l.mappings, security_model, security_name);
+    let Some((a, e)) = mapping else {
         return Authorized {
             mapping,
-            access: Found::Nothing,
-            standing: Standing::Denied(Cause::NoGroupName),
+            access: None,
+            standing: Err(Cause::NoGroupName),
         };
     };
-    let accesses = l.accesses;
     let access = access_of(
         w,
-        accesses,
+        l.accesses,
         &w[a..e],
         security_model,
         security_level,
         context_name,
     );
-    let Found::Row(b, f) = access else {
+    let Some((b, f)) = access else {
         return Authorized {
             mapping,
             access,
-            standing: Standing::Denied(Cause::NoAccessEntry),
+            standing: Err(Cause::NoAccessEntry),
         };
     };
-    let views = l.views;
-    let standing = by_access(w, views, b, f, view_type);
     Authorized {
         mapping,
         access,
-        standing,
+        standing: by_access(w, l.views, b, f, view_type),
     }
 }
 
 // ---- the second part
 
 // The row of the view that decides on the variable, which is in parts of 4 bytes.
-pub fn deciding_row(w: &[u8], v: NamedView, variable: &[u8]) -> Found
+pub fn deciding_row(w: &[u8], v: NamedView, variable: &[u8]) -> Option<(usize, usize)>
     requires { ViewIn w.now v }
     ensures { Chosen View view_of w.now result (chosen_view (identifier variable.now) (rows_of w.now v)) }
 {
-    let from = v.from;
-    let to = v.to;
-    let rows = v.rows;
-    decision_find::find_view_row(w, rows, &w[from..to], variable)
+    decision_find::find_view_row(w, v.rows, &w[v.from..v.to], variable)
 }
 
 // What step 5 answers by the row that decides: notInView where none does.
-pub fn by_row(w: &[u8], row: Found) -> Decision
+pub fn by_row(w: &[u8], row: Option<(usize, usize)>) -> Decision
     requires lies { FoundIn w.now row }
     requires whole { OnSome (Whole View) (bytes_at w.now row) }
     ensures { result ≡ or_refused NotInView (Option.map view_of (bytes_at w.now row)) by_type }
 {
-    let Found::Row(at, end) = row else {
-        return Decision::Refused(Cause::NotInView);
-    };
+    let (at, end) = row.ok_or(Cause::NotInView)?;
     if decision_views::family_type(&w[at..end]) == INCLUDED {
-        return Decision::Allowed;
+        return Ok(());
     }
-    Decision::Refused(Cause::NotInView)
+    Err(Cause::NotInView)
 }
 
 // Step 5: the decision on the variable by the view.
@@ -197,6 +184,5 @@ pub fn decide_in(w: &[u8], v: NamedView, variable: &[u8]) -> Decision
     requires { ViewIn w.now v }
     ensures { result ≡ step5 (identifier variable.now) (rows_of w.now v) }
 {
-    let row = deciding_row(w, v, variable);
-    by_row(w, row)
+    by_row(w, deciding_row(w, v, variable))
 }

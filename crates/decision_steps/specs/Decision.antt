@@ -1,12 +1,11 @@
 -- RFC 3415, section 3.2, Elements of Procedure, as document 01, "The decision", gives them; over the rows held. Assumes nothing.
 use Rattle.std.specs.Prelude.{Bool, true, false, cond, not, ◌&&◌, ◌||◌, List, [], ◌∷◌, ℕ, suc, ◌-◌, ◌/◌, ◌%◌, ◌^◌, eqb, leb, length, get_or}
 use Rattle.std.proofs.Math.Option.{Option, none, some}
-use Rattle.answers.specs.declared.Answer.{Answer}
-use Rattle.answers.specs.declared.Answer.TheVariants.{Decided, Faulty}
+use Rattle.std.specs.Prelude.{Ok, Err}
+use Rattle.answers.specs.Types.{Answer}
 use Rattle.answers.specs.declared.Cause.{Cause}
 use Rattle.answers.specs.declared.Cause.TheVariants.{NoSuchContext, NoGroupName, NoAccessEntry, NoSuchView, NotInView}
-use Rattle.answers.specs.declared.Decision.{Decision}
-use Rattle.answers.specs.declared.Decision.TheVariants.{Allowed, Refused}
+use Rattle.answers.specs.Types.{Decision}
 use Rattle.answers.specs.declared.Fault.TheVariants.{NotSound, OutOfRange}
 use Rattle.numbers.specs.Lists.{keep, every, any, first, find, top}
 use Rattle.numbers.specs.Order.{same, before, begins}
@@ -112,11 +111,11 @@ included = 1
 -- ---- the steps, from the last to the first: each goes on to the next with what it finds, and refuses where it finds nothing
 
 abbrev pub or_refused : {A : Type 0} → Cause → Option A → (A → Decision) → Decision
-or_refused cause none next = Refused cause
+or_refused cause none next = Err cause
 or_refused cause (some x) next = next x
 
 abbrev pub by_type : ViewRow → Decision
-by_type r = cond (eqb r.family_type included) Allowed (Refused NotInView)
+by_type r = cond (eqb r.family_type included) (Ok tt) (Err NotInView)
 
 abbrev pub step5 : List ℕ → List ViewRow → Decision
 step5 variable rs = or_refused NotInView (chosen_view variable rs) by_type
@@ -165,7 +164,7 @@ authority t model name level view context =
 
 -- step 5 of a variable
 abbrev pub by_authority : List ℕ → Authority → Decision
-by_authority variable (denied cause) = Refused cause
+by_authority variable (denied cause) = Err cause
 by_authority variable (viewed rs) = step5 variable rs
 
 -- the rows that steps 2 and 3 choose, none where the steps do not get there
@@ -184,13 +183,13 @@ access_row t model name level context =
 -- ---- the call: 6 before 7 before the steps
 
 abbrev pub if_legal : Bool → Tables → Request → Answer
-if_legal true t q = Decided (decision t q)
-if_legal false t q = Faulty OutOfRange
+if_legal true t q = Ok (decision t q)
+if_legal false t q = Err OutOfRange
 
 -- on tables that are sound
 abbrev pub answer_on : Tables → Request → Answer
 answer_on t q = if_legal (legal_request q) t q
 
 abbrev pub answer : Option Tables → Request → Answer
-answer none q = Faulty NotSound
+answer none q = Err NotSound
 answer (some t) q = answer_on t q

@@ -8,6 +8,8 @@ ghost use Rattle.rows.specs.Rows.{context_of, mapping_of, access_of};
 ghost use Rattle.decision_steps.specs.Decision.{is_active, bears_context, maps_principal, context_fits, view_for};
 ghost use Rattle.decision_steps.specs.Bytes.{Whole, NameIn, name_at, After, NamedAt, rank_of};
 
+// These stay numbers and are no enums: a row's octets and an agent's request hand numbers that may be out of range, which document 01 answers by 7.
+
 // A row's status (RowStatus): only active rows take part.
 const ACTIVE: u8 = 1;
 

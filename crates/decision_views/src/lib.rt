@@ -40,16 +40,13 @@ fn is_below(subtree: &[u8], mask: &[u8], variable: &[u8]) -> bool
             }
         }
     }
-    let mut i = octets::skip(subtree, variable, 0, n) / 4;
-    let mut k = 4 * i;
-    while k < n {
+    for i in octets::skip(subtree, variable, 0, n) / 4..n / 4 {
+        let k = 4 * i;
         if !octets::same_four(subtree, variable, k) {
             if mask_bit(mask, i) {
                 return false;
             }
         }
-        i += 1;
-        k += 4;
     }
     true
 }

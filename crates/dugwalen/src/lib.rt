@@ -6,7 +6,6 @@ ghost use Rattle.image_judge.specs.Faults.{SoundLayout, tables_at};
 ghost use Rattle.dugwalen.specs.CCall.{request_number, call_number};
 
 use answers::Fault;
-use image_judge::Surveyed;
 use image_layout::Layout;
 
 // The answer on tables that are sound: 7 for the request's fields and for a torn last part of the variable, then the steps.
@@ -65,10 +64,9 @@ pub fn dugwalen_is_access_allowed(
     ensures { result ≡ call_number image.now security_model security_name.now security_level view_type
         context_name.now variable_name.now }
 {
-    let surveyed = image::survey_image(image);
-    match surveyed {
-        Surveyed::Bad(f) => answers::fault_number(f),
-        Surveyed::Laid(l) => on_tables(
+    match image::survey_image(image) {
+        Err(f) => answers::fault_number(f),
+        Ok(l) => on_tables(
             image,
             l,
             security_model,

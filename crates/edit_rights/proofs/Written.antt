@@ -7,8 +7,8 @@ use Prim.Native.Nat.{ℕ, zero, suc, ◌≤◌, ◌<◌}
 use native.Mathlib.Omega.{arith}
 use lib.ListN.{length, set, length-append}
 use lib.Seq.{set-append_seam}
+use Rattle.std.specs.Prelude.{Ok, Err}
 use Rattle.answers.specs.declared.Cause.{Cause}
-use Rattle.answers.specs.declared.Decision.TheVariants.{Refused}
 use Rattle.numbers.specs.Lists.{every}
 use Rattle.numbers.proofs.Bools.{and_left}
 use Rattle.rows.specs.declared.Shape.{Shape}
@@ -21,8 +21,7 @@ use Rattle.decision_steps.specs.Request.{write}
 use Rattle.decision_steps.specs.Decision.{step5}
 use Rattle.decision_parts.specs.declared.Authorized.{Authorized}
 use Rattle.decision_parts.specs.declared.NamedView.{NamedView}
-use Rattle.decision_parts.specs.declared.Standing.{Standing}
-use Rattle.decision_parts.specs.declared.Standing.TheVariants.{Denied, Viewed}
+use Rattle.decision_parts.specs.Types.{Standing}
 use Rattle.decision_parts.specs.Parts.{Authorizes, rows_of}
 use Rattle.decision_parts.proofs.Decisions.{denied-decision, viewed-decision, viewed-in}
 use Rattle.instance_encode.specs.Instances.{base, counted, lists, instance, status_column}
@@ -63,11 +62,11 @@ column-inside t column index = omega (arith, length-append (base t) (column ∷ 
 
 module _ {w : List ℕ} {l : Layout} (c : Caller) {r : Authorized}
     (k : Authorizes w l c.security_model c.security_name c.security_level write [] r) (s : Shape) (t : Table) (index : List ℕ) where
-  judged-denied : {cause : Cause} → r.standing ≡ Denied cause → Refused cause ≡ judgement_at (tables_at w l) c s t index
+  judged-denied : {cause : Cause} → r.standing ≡ Err cause → Err cause ≡ judgement_at (tables_at w l) c s t index
   unfolding judgement_at
   judged-denied e = all-refused _ (λ column. denied-decision k (instance t column index) e) s t
 
-  judged-viewed : {v : NamedView} → r.standing ≡ Viewed v
+  judged-viewed : {v : NamedView} → r.standing ≡ Ok v
       → first_refusal (λ column. step5 (instance t column index) (rows_of w v)) (columns_written s t) ≡ judgement_at (tables_at w l) c s t index
   unfolding judgement_at
   judged-viewed e = refusals-same (λ column. viewed-decision k (instance t column index) e) (columns_written s t)
@@ -78,5 +77,5 @@ pub stands-in : {w : List ℕ} {l : Layout} (c : Caller) {r : Authorized}
 stands-in {w} {l} c {r} k = found r.standing refl
   where
     found : (v : Standing) → r.standing ≡ v → Stands w l c v
-    found (Denied cause) e = record { lies = tt; judges = λ s t index. judged-denied c k s t index e }
-    found (Viewed v) e = record { lies = viewed-in k e; judges = λ s t index. judged-viewed c k s t index e }
+    found (Err cause) e = record { lies = tt; judges = λ s t index. judged-denied c k s t index e }
+    found (Ok v) e = record { lies = viewed-in k e; judges = λ s t index. judged-viewed c k s t index e }

@@ -14,10 +14,9 @@ ghost use Rattle.edit_rules.specs.Edits.{caller_of, is_context, columns_written,
 ghost use Rattle.edit_rights.specs.Admission.{admission};
 ghost use Rattle.edit_rights.specs.Standing.{StandingIn, judged_by, Stands};
 
-use answers::{Cause, Decision, Fault, Written};
+use answers::{Cause, Decision, Fault, Refusal};
 use decision::MOST_PARTS;
-use decision_parts::{NamedView, Standing};
-use edit_rules::Edited;
+use decision_parts::NamedView;
 use image_layout::Layout;
 use instance_encode::Columns;
 use rows::{Shape, Table};
@@ -27,12 +26,7 @@ const WRITE: u32 = 2;
 fn is_context(t: Table) -> bool
     ensures { result ≡ is_context t }
 {
-    match t {
-        Table::Context => true,
-        Table::Mapping => false,
-        Table::Access => false,
-        Table::View => false,
-    }
+    t == Table::Context
 }
 
 fn status_column(t: Table) -> u8
@@ -77,18 +71,12 @@ fn judge_columns(
     ensures { result ≡ first_refusal (λ column. step5 (set variable.old at column) (rows_of w.now v))
         (counted columns.first columns.count) }
 {
-    let mut column = columns.first;
-    let mut left = columns.count;
-    while 0 < left {
+    let first = columns.first as usize;
+    for column in first..first + columns.count {
         variable[at] = column as u32;
-        let judged = decision::decide_variable_in(w, v, variable);
-        let Decision::Allowed = judged else {
-            return judged;
-        };
-        column += 1;
-        left -= 1;
+        decision::decide_variable_in(w, v, variable)?;
     }
-    Decision::Allowed
+    Ok(())
 }
 
 // The edit of the row with this key, judged by the view. An instance has no more than 110 parts.
@@ -100,9 +88,9 @@ fn judge_in(w: &[u8], v: NamedView, s: Shape, t: Table, key: &[u8]) -> Decision
 {
     let columns = columns_written(s, t);
     let mut parts = [0u32; MOST_PARTS];
-    let written = instance_encode::encode(t, columns.first as u32, key, &mut parts);
-    let Written::Length(n) = written else {
-        return Decision::Refused(Cause::NotInView);
+    // never met: a whole key always has an instance, and it fits
+    let Ok(n) = instance_encode::encode(t, columns.first as u32, key, &mut parts) else {
+        return Err(Cause::NotInView);
     };
     judge_columns(
         w,
@@ -120,7 +108,7 @@ pub fn standing_of(
     security_model: u32,
     security_name: &[u8],
     security_level: u32,
-) -> Standing
+) -> Result<NamedView, Cause>
     requires { SoundLayout w.now l }
     ensures { Stands w.now l (caller_of security_model security_name.now security_level) result }
 {
@@ -138,38 +126,37 @@ pub fn standing_of(
 }
 
 // The edit judged by a standing: step 5 at each column.
-fn judge_by(w: &[u8], standing: Standing, s: Shape, t: Table, key: &[u8]) -> Decision
+fn judge_by(
+    w: &[u8],
+    standing: Result<NamedView, Cause>,
+    s: Shape,
+    t: Table,
+    key: &[u8],
+) -> Decision
     requires standing { StandingIn w.now standing }
     requires whole { faults (key_fields t) key.now ≡ none }
     ensures { result ≡ judged_by w.now standing s t (index_of t key.now) }
 {
-    match standing {
-        Standing::Denied(cause) => Decision::Refused(cause),
-        Standing::Viewed(v) => judge_in(w, v, s, t, key),
-    }
+    judge_in(w, standing?, s, t, key)
 }
 
 // ---- admission
 
-// What a legal edit by a principal is answered before its row is looked at, if anything is.
-#[derive(Clone, Copy)]
-pub enum Admission {
-    Granted,
-    Denied(Edited),
-}
-
 // The edit of the row with this key, admitted or denied: a context row's to nobody, any other's as the tables say.
-pub fn admit(w: &[u8], standing: Standing, s: Shape, t: Table, key: &[u8]) -> Admission
+pub fn admit(
+    w: &[u8],
+    standing: Result<NamedView, Cause>,
+    s: Shape,
+    t: Table,
+    key: &[u8],
+) -> Result<(), Refusal>
     requires standing { StandingIn w.now standing }
     requires whole { faults (key_fields t) key.now ≡ none }
     ensures { result ≡ admission (is_context t) (judged_by w.now standing s t (index_of t key.now)) }
 {
     if is_context(t) {
-        return Admission::Denied(Edited::Faulty(Fault::ContextTable));
+        return Err(Refusal::Faulty(Fault::ContextTable));
     }
-    let judged = judge_by(w, standing, s, t, key);
-    if let Decision::Refused(cause) = judged {
-        return Admission::Denied(Edited::Barred(cause));
-    }
-    Admission::Granted
+    judge_by(w, standing, s, t, key)?;
+    Ok(())
 }

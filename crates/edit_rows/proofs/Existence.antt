@@ -5,9 +5,9 @@ use mathlib.Core.Bool.{Bool, true, false}
 use mathlib.Core.List.{List}
 use mathlib.Core.Option.{none}
 use Prim.Native.Nat.{ℕ, ◌-◌}
-use native.Mathlib.Omega.{arith}
 use lib.ListN.{length, take}
-use Rattle.answers.specs.declared.Cause.{Cause}
+use Rattle.std.specs.Prelude.{Ok, Err}
+use Rattle.answers.specs.declared.Refusal.TheVariants.{Barred, Faulty}
 use Rattle.edit_rules.specs.declared.Operation.{Operation}
 use Rattle.rows.specs.declared.Table.{Table}
 use Rattle.rows.specs.Fields.{faults}
@@ -20,10 +20,9 @@ use Rattle.image.specs.Store.{is_sound}
 use Rattle.table_update.specs.Exchange.{Sought}
 use Rattle.table_update.proofs.Stores.{row_key}
 use Rattle.table_update.proofs.Existence.{place_of, place-sought, after, after-exchanges, after-octets}
-use Rattle.edit_rules.specs.declared.Edited.{Edited}
-use Rattle.edit_rules.specs.declared.Edited.TheVariants.{Done, Barred, Faulty}
+use Rattle.edit_rules.specs.Types.{Edited}
 use Rattle.edit_rules.specs.Edits.{Outcome, edit_of, shape_of, edit, is_context}
-use Rattle.edit_rules.proofs.Outcomes.{faulty-done}
+use Rattle.edit_rules.proofs.Outcomes.{done-refused}
 use Rattle.edit_rows.specs.Promise.{Edits, length_in}
 use Rattle.edit_rows.proofs.Stores.{answer_at, place-refused, place-asked, place-done}
 
@@ -32,9 +31,6 @@ pub record Made (f : Tables → Outcome) (w : List ℕ) : Type 0 where
   pub answered : Edited
   pub promise : Edits f w left answered
   pub octets : Octets left
-
-barred-done : {c : Cause} → Barred c ≡ Done → ⊥
-barred-done e = let z : ◌≡◌ {A = ℕ} 0 1 = cc e in omega arith
 
 module _ (o : Operation) (t : Table) (w : List ℕ) (h : is_sound w ≡ true) (b : Octets w) (strict : Bool) (n : strict ≡ true → is_context t ≡ false)
     (bytes : List ℕ) (d : Octets bytes) (f : faults (fields_of (shape_of o) t) bytes ≡ none) where
@@ -46,19 +42,19 @@ module _ (o : Operation) (t : Table) (w : List ℕ) (h : is_sound w ≡ true) (b
   row = take (length_in (shape_of o) (length bytes) - 0) bytes
 
   made_as : (r : Edited) → r ≡ answer_at t w h b strict n bytes d sought o → Made (λ ts. edit strict ts (edit_of o t bytes)) w
-  made_as Done e =
+  made_as (Ok tt) e =
       let a = place-asked t w h b strict n bytes d sought o f (sym e) {x = extent_of t (layout_of w)} {end = end_of w (layout_of w).views} refl refl refl refl in
       let c = octets-take (length_in (shape_of o) (length bytes) - 0) bytes d in
       record {
         left = after b a.0 row c a.1;
-        answered = Done;
+        answered = (Ok tt);
         promise = place-done t w h b strict n bytes d sought o f (sym e) refl (after-exchanges b a.0 row c a.1);
         octets = after-octets b a.0 row c a.1;
       }
-  made_as (Barred c) e =
-      record { left = w; answered = Barred c; promise = place-refused t w h b strict n bytes d sought o f (Barred c) e barred-done; octets = b }
-  made_as (Faulty g) e =
-      record { left = w; answered = Faulty g; promise = place-refused t w h b strict n bytes d sought o f (Faulty g) e faulty-done; octets = b }
+  made_as (Err (Barred c)) e =
+      record { left = w; answered = Err (Barred c); promise = place-refused t w h b strict n bytes d sought o f (Err (Barred c)) e (λ q. done-refused (sym q)); octets = b }
+  made_as (Err (Faulty g)) e =
+      record { left = w; answered = Err (Faulty g); promise = place-refused t w h b strict n bytes d sought o f (Err (Faulty g)) e (λ q. done-refused (sym q)); octets = b }
 
   pub edit-made : Made (λ ts. edit strict ts (edit_of o t bytes)) w
   edit-made = made_as (answer_at t w h b strict n bytes d sought o) refl

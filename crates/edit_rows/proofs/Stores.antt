@@ -4,8 +4,7 @@
 -- `edit-change`. Where the answer is Done, a row put is held or has room, and a row removed is held. Assumes nothing.
 use mathlib.Core.Path.{◌≡◌, refl, sym, ap, subst, ◌∙◌}
 use mathlib.Core.Bool.{Bool, true, false}
-use mathlib.Core.List.{List, [], ◌∷◌}
-use mathlib.Core.Logic.{⊎_elim}
+use mathlib.Core.List.{List, []}
 use mathlib.Core.Option.{Option, none, some}
 use Prim.Native.Nat.{ℕ, ◌-◌, ◌≤◌, ◌<◌}
 use native.Mathlib.Omega.{arith}
@@ -13,8 +12,8 @@ use lib.Dec.{leb}
 use lib.ListN.{length, take}
 use lib.Seq.{take_all}
 use borrow.Author.Tests.{leb-false}
-use types.Run.{OneOf}
-use denote.Enum.Declared.{tag_of}
+use Rattle.std.specs.Prelude.{Ok, Err}
+use Rattle.answers.specs.declared.Refusal.TheVariants.{Barred, Faulty}
 use Rattle.answers.specs.declared.Fault.{Fault}
 use Rattle.answers.specs.declared.Fault.TheVariants.{NotSound, TableFull}
 use Rattle.numbers.proofs.Bools.{split, clash, is_true, cond-true, cond-false}
@@ -43,9 +42,7 @@ use Rattle.edit_rules.specs.declared.Operation.{Operation}
 use Rattle.edit_rules.specs.declared.Operation.TheVariants.{Create, Change, Remove}
 use Rattle.rows.specs.declared.Shape.{Shape}
 use Rattle.rows.specs.declared.Shape.TheVariants.{Row, Key}
-use Rattle.edit_rules.specs.declared.Edited.{Edited}
-use Rattle.edit_rules.specs.contracts.Edited.{the_type}
-use Rattle.edit_rules.specs.declared.Edited.TheVariants.{Done, Barred, Faulty}
+use Rattle.edit_rules.specs.Types.{Edited}
 use Rattle.edit_rules.specs.Edits.{Outcome, outcome, edited_number, edit_of, shape_of, faulted, row_fault, edit, is_context}
 use Rattle.edit_rules.specs.TableRows.{row_index, rows_of}
 use Rattle.edit_rules.specs.Storage.{storage_in, storage_at, StorageKnown, place_fault, placed, full_at}
@@ -111,7 +108,7 @@ held-ascends w e u =
     let h = held-is w e in
     rw (h.1, rows_in_lem (store_rows w) u) (rows-ascend u (table_rows u w) (sound-ascends u w h.0))
 
-pub edits-unsound : (f : Tables → Outcome) (w : List ℕ) → is_sound w ≡ false → Edits f w w (Faulty NotSound)
+pub edits-unsound : (f : Tables → Outcome) (w : List ℕ) → is_sound w ≡ false → Edits f w w (Err (Faulty NotSound))
 edits-unsound f w h =
     let e = held-unsound w h in
     let a = sym (ap (answered f) e) in
@@ -119,7 +116,7 @@ edits-unsound f w h =
 
 module _ (f : Tables → Outcome) (w : List ℕ) (h : is_sound w ≡ true) where
   edits-made : (after : List ℕ) (r : Edited) → is_sound after ≡ true → f (tables (store_rows w)) ≡ outcome r (tables (store_rows after)) →
-      ((r ≡ Done → ⊥) → after ≡ w)
+      ((r ≡ (Ok tt) → ⊥) → after ≡ w)
       → Edits f w after r
   edits-made after r g e k = record {
     answer_is = sym (ap (answered f) (held-sound w h) ∙ ap (λ o. o.answer) e);
@@ -143,40 +140,36 @@ module _ (f : Tables → Outcome) (w : List ℕ) (h : is_sound w ≡ true) where
         refusal_keeps = k.refusal_keeps;
       }
 
-  edits-done : (after : List ℕ) → is_sound after ≡ true → f (tables (store_rows w)) ≡ outcome Done (tables (store_rows after)) → Edits f w after Done
-  edits-done after g e = edits-made after Done g e (λ n. absurd (n refl))
+  edits-done : (after : List ℕ) → is_sound after ≡ true → f (tables (store_rows w)) ≡ outcome (Ok tt) (tables (store_rows after)) → Edits f w after (Ok tt)
+  edits-done after g e = edits-made after (Ok tt) g e (λ n. absurd (n refl))
 
 -- ---- the answer at the place
 
-stays : (new old : Tables) (r : Edited) → (r ≡ Done → ⊥) → afterwards new old r ≡ old
-stays new old Done m = absurd (m refl)
-stays new old (Barred c) m = refl
-stays new old (Faulty g) m = refl
-
--- by the numbers of the variants
-pub not_done : (r : Edited) → OneOf (1 ∷ 2 ∷ []) (tag_of the_type r) → r ≡ Done → ⊥
-not_done r o e = let z : tag_of the_type r ≡ 0 = ap (tag_of the_type) e in ⊎_elim (λ h. omega arith) (λ h. omega arith) o
+stays : (new old : Tables) (r : Edited) → (r ≡ (Ok tt) → ⊥) → afterwards new old r ≡ old
+stays new old (Ok tt) m = absurd (m refl)
+stays new old (Err (Barred c)) m = refl
+stays new old (Err (Faulty g)) m = refl
 
 -- as it is judged; then as there is room
-pub placed-judged : (g : Option Fault) (full : Bool) {r : Edited} → r ≡ faulted g → (r ≡ Done → ⊥) → r ≡ placed g full
+pub placed-judged : (g : Option Fault) (full : Bool) {r : Edited} → r ≡ faulted g → (r ≡ (Ok tt) → ⊥) → r ≡ placed g full
 placed-judged none full e m = absurd (m e)
 placed-judged (some g) full e m = e
 
-pub placed-full : (g : Option Fault) {full : Bool} → faulted g ≡ Done → full ≡ true → Faulty TableFull ≡ placed g full
+pub placed-full : (g : Option Fault) {full : Bool} → faulted g ≡ (Ok tt) → full ≡ true → Err (Faulty TableFull) ≡ placed g full
 placed-full none e h = rw h
 placed-full (some g) e h = absurd (faulty-done e)
 
-pub placed-room : (g : Option Fault) {full : Bool} → faulted g ≡ Done → full ≡ false → placed g full ≡ Done
+pub placed-room : (g : Option Fault) {full : Bool} → faulted g ≡ (Ok tt) → full ≡ false → placed g full ≡ (Ok tt)
 placed-room none e h = rw h
 placed-room (some g) e h = absurd (faulty-done e)
 
-placed-done : (g : Option Fault) (full : Bool) → placed g full ≡ Done → full ≡ false
+placed-done : (g : Option Fault) (full : Bool) → placed g full ≡ (Ok tt) → full ≡ false
 placed-done none true e = absurd (faulty-done e)
 placed-done none false e = refl
 placed-done (some g) full e = absurd (faulty-done e)
 
 -- Done only where the row is held, or is put where there is room
-done-room : (strict : Bool) (o : Operation) (h : Bool) (old new n m : ℕ) → placed (place_fault strict o h old new) (full_at o n m) ≡ Done → h ≡ false
+done-room : (strict : Bool) (o : Operation) (h : Bool) (old new n m : ℕ) → placed (place_fault strict o h old new) (full_at o n m) ≡ (Ok tt) → h ≡ false
     → (shape_of o ≡ Row) × (m < n)
 done-room strict o true old new n m e f = clash refl f
 done-room strict Create false old new n m e f = (refl, leb-false n m (placed-done (place_fault strict Create false old new) (leb n m) e))
@@ -225,21 +218,21 @@ module _ (t : Table) (w : List ℕ) (h : is_sound w ≡ true) (b : Octets w) (st
   answer_at o = placed (fault_at o) (full_here o)
 
   -- where the row is not held, the answer Done is of a row put, and there is room
-  absent-done : (o : Operation) → answer_at o ≡ Done → p.present ≡ false → (shape_of o ≡ Row) × ((extent_of t (layout_of w)).count < limit t)
+  absent-done : (o : Operation) → answer_at o ≡ (Ok tt) → p.present ≡ false → (shape_of o ≡ Row) × ((extent_of t (layout_of w)).count < limit t)
   absent-done o e = done-room strict o p.present (storage_at w p) (storage_in bytes) (limit t) (extent_of t (layout_of w)).count e
 
-  room-left : (o : Operation) → answer_at o ≡ Done → is_held key rows ≡ false → length rows < limit t
+  room-left : (o : Operation) → answer_at o ≡ (Ok tt) → is_held key rows ≡ false → length rows < limit t
   room-left o e m = omega (arith, (absent-done o e (s.present_is ∙ m)).1, length-rows w (extent_of t (layout_of w)))
 
-  removed-held : (o : Operation) → shape_of o ≡ Key → answer_at o ≡ Done → p.present ≡ true
+  removed-held : (o : Operation) → shape_of o ≡ Key → answer_at o ≡ (Ok tt) → p.present ≡ true
   removed-held o q e = is_true p.present (λ m. let z : ◌≡◌ {A = ℕ} 0 1 = cc (sym (absent-done o e m).0 ∙ q) in omega arith)
 
-  room-taken : (o : Operation) (y : Shape) → shape_of o ≡ y → faults (fields_of y t) bytes ≡ none → answer_at o ≡ Done → {end : ℕ} → ImageIn w end
+  room-taken : (o : Operation) (y : Shape) → shape_of o ≡ y → faults (fields_of y t) bytes ≡ none → answer_at o ≡ (Ok tt) → {end : ℕ} → ImageIn w end
       → RoomFor w p end (taken y bytes)
   room-taken o Row q f e i = room_for t w bytes h b d f (room-left o e) i s
   room-taken o Key q f e i = room-removed p i (removed-held o q e)
 
-  sound-after : (o : Operation) (y : Shape) → faults (fields_of y t) bytes ≡ none → answer_at o ≡ Done → {after : List ℕ}
+  sound-after : (o : Operation) (y : Shape) → faults (fields_of y t) bytes ≡ none → answer_at o ≡ (Ok tt) → {after : List ℕ}
       → Exchanges t (rows_before key rows) (one_if (is_held key rows)) (comes y bytes) w after → is_sound after ≡ true
   sound-after o Row f e x = sound-put t w bytes h b d f (room-left o e) x
   sound-after o Key f e x = sound-removed t w bytes h b d f (rw (key-whole t bytes f) at x)
@@ -266,11 +259,11 @@ module _ (t : Table) (w : List ℕ) (h : is_sound w ≡ true) (b : Octets w) (st
       of_put = λ e. storage-room t (n y) bytes (subst (λ k. faults (fields_of k t) bytes ≡ none) e f);
     }
 
-    pub place-refused : (r : Edited) → r ≡ answer_at o → (r ≡ Done → ⊥) → Edits (λ ts. edit strict ts (edit_of o t bytes)) w w r
+    pub place-refused : (r : Edited) → r ≡ answer_at o → (r ≡ (Ok tt) → ⊥) → Edits (λ ts. edit strict ts (edit_of o t bytes)) w w r
     place-refused r e m =
         edits-refused (λ ts. edit strict ts (edit_of o t bytes)) w h r (edit-is ∙ ap (judged _ _) (sym e) ∙ ap (outcome r) (stays _ (tables (store_rows w)) r m))
 
-    module _ (e : answer_at o ≡ Done) where
+    module _ (e : answer_at o ≡ (Ok tt)) where
       -- what exchanging asks
       pub place-asked : {l : Layout} {x : Extent} {end k : ℕ} → l ≡ layout_of w → x ≡ extent_of t l → end ≡ end_of w l.views
           → k ≡ length_in (shape_of o) (length bytes)
@@ -281,8 +274,8 @@ module _ (t : Table) (w : List ℕ) (h : is_sound w ≡ true) (b : Octets w) (st
           (record { image_in = i; extent_is = z; place_in = rw z s.place_in }, rw (taken_is (shape_of o) bytes u) (room-taken o (shape_of o) refl f e i))
 
       pub place-done : {after : List ℕ} {k : ℕ} → k ≡ length_in (shape_of o) (length bytes)
-          → Exchanges t p.row (one_if p.present) (one_row (take (k - 0) bytes)) w after → Edits (λ ts. edit strict ts (edit_of o t bytes)) w after Done
+          → Exchanges t p.row (one_if p.present) (one_row (take (k - 0) bytes)) w after → Edits (λ ts. edit strict ts (edit_of o t bytes)) w after (Ok tt)
       place-done {after} u x =
           let y = sought-exchanges s (rw (taken_is (shape_of o) bytes u, comes-taken (shape_of o) t bytes d f) at x) in
           edits-done (λ ts. edit strict ts (edit_of o t bytes)) w h after (sound-after o (shape_of o) f e y)
-          (edit-is ∙ ap (judged _ _) e ∙ ap (outcome Done) (sym (tables-ext (store_rows after) _ y.rows_are)))
+          (edit-is ∙ ap (judged _ _) e ∙ ap (outcome (Ok tt)) (sym (tables-ext (store_rows after) _ y.rows_are)))

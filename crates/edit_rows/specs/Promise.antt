@@ -1,6 +1,8 @@
 -- What a call that edits promises: the answer, the rows afterwards, and that a refusal leaves the store as found. Assumes nothing.
 use Rattle.std.specs.Prelude.{◌≡◌, Bool, true, false, List, ℕ}
 use Rattle.std.proofs.Math.Option.{Option, none, some}
+use Rattle.std.specs.Prelude.{Ok, Err}
+use Rattle.answers.specs.declared.Refusal.TheVariants.{Faulty}
 use Rattle.answers.specs.declared.Fault.TheVariants.{NotSound}
 use Rattle.rows.specs.declared.Shape.{Shape}
 use Rattle.rows.specs.declared.Shape.TheVariants.{Row, Key}
@@ -11,13 +13,12 @@ use Rattle.rows.specs.Tables.{Tables}
 use Rattle.image_layout.specs.declared.Layout.{Layout}
 use Rattle.image_layout.specs.Layout.{layout_of}
 use Rattle.image.specs.Store.{is_sound, held}
-use Rattle.edit_rules.specs.declared.Edited.{Edited}
-use Rattle.edit_rules.specs.declared.Edited.TheVariants.{Done, Faulty}
+use Rattle.edit_rules.specs.Types.{Edited}
 use Rattle.edit_rules.specs.Edits.{Outcome, edited_number, is_context}
 
 -- 6 first
 abbrev pub answered : (Tables → Outcome) → Option Tables → Edited
-answered f none = Faulty NotSound
+answered f none = Err (Faulty NotSound)
 answered f (some t) = (f t).answer
 
 abbrev pub left : (Tables → Outcome) → Option Tables → Option Tables
@@ -29,7 +30,7 @@ pub record Edits (f : Tables → Outcome) (found after : List ℕ) (r : Edited) 
   pub answer_is : r ≡ answered f (held found)
   pub number_is : edited_number r ≡ edited_number (answered f (held found))
   pub rows_are : held after ≡ left f (held found)
-  pub refusal_keeps : (r ≡ Done → ⊥) → after ≡ found
+  pub refusal_keeps : (r ≡ (Ok tt) → ⊥) → after ≡ found
 
 -- ---- what the code asks for
 

@@ -8,43 +8,39 @@ ghost use Rattle.edit_rules.specs.Edits.{edit as Edits·edit, edit_of, shape_of,
 ghost use Rattle.edit_rules.specs.Storage.{storage_in, storage_at, StorageKnown, place_fault, full_at};
 ghost use Rattle.edit_rows.specs.Promise.{Edits, Editable, Handed, length_in};
 
-use answers::Fault;
-use edit_rules::{Edited, Operation};
+use answers::{Fault, Refusal};
+use edit_rules::Operation;
 use image_layout::Layout;
 use rows::{Shape, Table};
 use table_update::Place;
 
 // A row is created where none is held, and changed or removed where one is.
-fn judge_presence(o: Operation, present: bool) -> Edited
+fn judge_presence(o: Operation, present: bool) -> Result<(), Refusal>
     ensures { result ≡ faulted (presence_fault o present) }
 {
-    if edit_rules::is_create(o) {
-        if present {
-            return Edited::Faulty(Fault::RowHeld);
-        }
-        return Edited::Done;
+    match (edit_rules::is_create(o), present) {
+        (true, true) => Err(Refusal::Faulty(Fault::RowHeld)),
+        (false, false) => Err(Refusal::Faulty(Fault::RowAbsent)),
+        _ => Ok(()),
     }
-    if !present {
-        return Edited::Faulty(Fault::RowAbsent);
-    }
-    Edited::Done
 }
 
 // What stands against an edit at the place of its key, if anything does. Strict: by a principal, to whom the storage rules apply.
-pub fn judge_place(w: &[u8], strict: bool, o: Operation, p: Place, bytes: &[u8]) -> Edited
+pub fn judge_place(
+    w: &[u8],
+    strict: bool,
+    o: Operation,
+    p: Place,
+    bytes: &[u8],
+) -> Result<(), Refusal>
     requires { strict ≡ true → StorageKnown (shape_of o) w.now p bytes.now }
     ensures { result ≡ faulted (place_fault strict o p.present (storage_at w.now p) (storage_in bytes.now)) }
 {
-    let presence = judge_presence(o, p.present);
-    let Edited::Done = presence else {
-        return presence;
-    };
-    if strict {
-        if !edit_storage::may_edit(w, edit_rules::shape_of(o), p, bytes) {
-            return Edited::Faulty(Fault::StorageForbids);
-        }
+    judge_presence(o, p.present)?;
+    if strict && !edit_storage::may_edit(w, edit_rules::shape_of(o), p, bytes) {
+        return Err(Refusal::Faulty(Fault::StorageForbids));
     }
-    Edited::Done
+    Ok(())
 }
 
 // What stands against the edit of a row of a table by bytes, of which the first `key` are its key, if anything but room does.
@@ -56,7 +52,7 @@ pub fn judge(
     t: Table,
     bytes: &[u8],
     key: usize,
-) -> Edited
+) -> Result<(), Refusal>
     requires store { Editable strict t w.now l }
     requires handed { Handed (shape_of o) t bytes.now key }
     ensures { result ≡ faulted (row_fault strict (tables_at w.now l) (edit_of o t bytes.now)) }
@@ -70,10 +66,7 @@ pub fn judge(
 pub fn is_full(o: Operation, t: Table, count: usize) -> bool
     ensures { result ≡ full_at o (limit t) count }
 {
-    if !edit_rules::is_create(o) {
-        return false;
-    }
-    rows::limit(t) <= count
+    edit_rules::is_create(o) && rows::limit(t) <= count
 }
 
 fn length_in(s: Shape, n: usize) -> usize
@@ -94,23 +87,19 @@ pub fn edit(
     t: Table,
     bytes: &[u8],
     key: usize,
-) -> Edited
+) -> Result<(), Refusal>
     requires store { Editable strict t w.old l }
     requires handed { Handed (shape_of o) t bytes.now key }
     ensures { Edits (λ rows. Edits·edit strict rows (edit_of o t bytes.now)) w.old w.new result }
 {
     let x = table_update::extent_of(l, t);
     let p = table_update::seek(w, x, &bytes[0..key]);
-    let judged = judge_place(w, strict, o, p, bytes);
-    let Edited::Done = judged else {
-        return judged;
-    };
+    judge_place(w, strict, o, p, bytes)?;
     if is_full(o, t, x.count) {
-        return Edited::Faulty(Fault::TableFull);
+        return Err(Refusal::Faulty(Fault::TableFull));
     }
-    let views = l.views;
-    let end = image_layout::end_of(w, views);
+    let end = image_layout::end_of(w, l.views);
     let n = length_in(edit_rules::shape_of(o), bytes.len());
     table_update::exchange(w, t, x, p, end, &bytes[0..n]);
-    Edited::Done
+    Ok(())
 }

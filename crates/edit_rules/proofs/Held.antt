@@ -4,6 +4,8 @@ use mathlib.Core.Path.{◌≡◌, refl}
 use mathlib.Core.Bool.{Bool, true, false}
 use mathlib.Core.List.{List, [], ◌∷◌, map}
 use Prim.Native.Nat.{ℕ}
+use Rattle.std.specs.Prelude.{Ok, Err}
+use Rattle.answers.specs.declared.Refusal.TheVariants.{Faulty}
 use Rattle.answers.specs.declared.Fault.{Fault}
 use Rattle.answers.specs.declared.Fault.TheVariants.{TableFull, RowAbsent, StorageForbids, RowHeld}
 use Rattle.numbers.specs.Order.{same, before}
@@ -12,7 +14,6 @@ use Rattle.rows.specs.Fields.{row_bytes}
 use Rattle.rows.specs.Rows.{ContextRow, MappingRow, key_fields, row_fields}
 use Rattle.rows.specs.Tables.{Tables}
 use Rattle.instance_encode.specs.Instances.{counted}
-use Rattle.edit_rules.specs.declared.Edited.TheVariants.{Done, Faulty}
 use Rattle.edit_rules.specs.declared.Operation.{Operation}
 use Rattle.edit_rules.specs.declared.Operation.TheVariants.{Create, Change}
 use Rattle.edit_rules.specs.TableRows.{tables_of}
@@ -40,10 +41,10 @@ edited strict o name storage rows =
     (edit_of o Mapping (row_bytes (row_fields Mapping) ((3 ∷ []) ∷ (name ∷ []) ∷ (name ∷ []) ∷ (storage ∷ []) ∷ (1 ∷ []) ∷ [])))
 
 abbrev made : List MappingRow → Outcome
-made rows = outcome Done (mappings rows)
+made rows = outcome (Ok tt) (mappings rows)
 
 abbrev refused : Fault → List MappingRow → Outcome
-refused f rows = outcome (Faulty f) (mappings rows)
+refused f rows = outcome (Err (Faulty f)) (mappings rows)
 
 -- a row is created where none is held, and changed where one is
 pub created : edited false Create 98 3 (a 3 ∷ []) ≡ made (a 3 ∷ b 3 ∷ [])
@@ -98,16 +99,16 @@ unfoldable pub in_full : Operation → ℕ → Outcome
 unfolding edit row_fault is_full applied index_of_edit key_fields row_fields same before
 in_full o name = edit false (contexts sixteen) (edit_of o Context (row_bytes (row_fields Context) ((name ∷ []) ∷ [])))
 
-pub full : in_full Create 17 ≡ outcome (Faulty TableFull) (contexts sixteen)
+pub full : in_full Create 17 ≡ outcome (Err (Faulty TableFull)) (contexts sixteen)
 unfolding in_full
 full = refl
 
 -- "18 when the row to create is already held", not 9
-pub full-held : in_full Create 5 ≡ outcome (Faulty RowHeld) (contexts sixteen)
+pub full-held : in_full Create 5 ≡ outcome (Err (Faulty RowHeld)) (contexts sixteen)
 unfolding in_full
 full-held = refl
 
 -- and a context row has nothing that could change
-pub full-changed : in_full Change 5 ≡ outcome Done (contexts sixteen)
+pub full-changed : in_full Change 5 ≡ outcome (Ok tt) (contexts sixteen)
 unfolding in_full
 full-changed = refl

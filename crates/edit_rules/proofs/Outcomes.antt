@@ -13,6 +13,9 @@ use native.Mathlib.Omega.{arith}
 use lib.Dec.{leb}
 use lib.ListN.{length, get_or, length-map}
 use lib.Seq.{take_all}
+use Rattle.std.specs.Prelude.{Ok, Err}
+use Rattle.answers.specs.declared.Refusal.{Refusal}
+use Rattle.answers.specs.declared.Refusal.TheVariants.{Barred, Faulty}
 use Rattle.answers.specs.declared.Fault.{Fault}
 use Rattle.answers.specs.declared.Fault.TheVariants.{StorageForbids}
 use Rattle.numbers.specs.Lists.{is_none}
@@ -35,8 +38,7 @@ use Rattle.table_update.specs.Tables.{row_at}
 use Rattle.table_update.proofs.Keys.{KeyOf, Whole, key-of-row, key-of-key}
 use Rattle.table_update.proofs.Typed.{put-rows, removed-rows, row-at, context-index, mapping-index, access-index, view-index}
 use Rattle.table_update.proofs.Stores.{row_key}
-use Rattle.edit_rules.specs.declared.Edited.{Edited}
-use Rattle.edit_rules.specs.declared.Edited.TheVariants.{Done, Barred, Faulty}
+use Rattle.edit_rules.specs.Types.{Edited}
 use Rattle.edit_rules.specs.TableRows.{volatile, row_of, row_index, storage_of, rows_of, tables_of, with_rows}
 use Rattle.edit_rules.specs.Edits.{Edit, Outcome, outcome, edit_of, shape_of, is_create, index_of_edit, may_put, may_remove, storage_lets, presence_fault}
 use Rattle.edit_rules.specs.Edits.{held_fault, row_fault, is_full, rows_after, applied, settled, faulted, edit, is_context}
@@ -50,14 +52,17 @@ comes Key bytes = []
 
 -- what is left after an answer: the new, or the old as it was
 abbrev pub afterwards : Tables → Tables → Edited → Tables
-afterwards new old Done = new
-afterwards new old (Barred c) = old
-afterwards new old (Faulty f) = old
+afterwards new old (Ok tt) = new
+afterwards new old (Err (Barred c)) = old
+afterwards new old (Err (Faulty f)) = old
 
 abbrev pub judged : Tables → Tables → Edited → Outcome
 judged new old r = outcome r (afterwards new old r)
 
-pub faulty-done : {f : Fault} → Faulty f ≡ Done → ⊥
+pub done-refused : {r : Refusal} → ◌≡◌ {A = Edited} (Ok tt) (Err r) → ⊥
+done-refused e = let z : ◌≡◌ {A = ℕ} 0 1 = cc e in omega arith
+
+pub faulty-done : {f : Fault} → ◌≡◌ {A = Edited} (Err (Faulty f)) (Ok tt) → ⊥
 faulty-done e = let z : ◌≡◌ {A = ℕ} 0 1 = cc e in omega arith
 
 -- ---- the storage rules: where no row is held, those of a volatile row

@@ -9,6 +9,8 @@ use Prim.Native.Nat.{ℕ, suc}
 use native.Mathlib.Omega.{arith}
 use lib.Dec.{eqb}
 use lib.ListN.{length}
+use Rattle.std.specs.Prelude.{Ok, Err}
+use Rattle.answers.specs.declared.Refusal.TheVariants.{Barred, Faulty}
 use Rattle.answers.specs.declared.Fault.{Fault}
 use Rattle.answers.specs.declared.Fault.TheVariants.{TableFull, RowAbsent, StorageForbids, RowHeld}
 use Rattle.numbers.specs.Lists.{is_none}
@@ -23,8 +25,7 @@ use Rattle.rows.specs.Fields.{or_else}
 use Rattle.rows.specs.Tables.{Tables}
 use Rattle.table_update.specs.Tables.{row_at, put_row}
 use Rattle.table_update.proofs.RowsAt.{row_at-put, put-more}
-use Rattle.edit_rules.specs.declared.Edited.{Edited}
-use Rattle.edit_rules.specs.declared.Edited.TheVariants.{Done, Barred, Faulty}
+use Rattle.edit_rules.specs.Types.{Edited}
 use Rattle.edit_rules.specs.declared.Operation.{Operation}
 use Rattle.edit_rules.specs.declared.Operation.TheVariants.{Create, Change, Remove}
 use Rattle.edit_rules.specs.TableRows.{RowOf, row_of, row_index, storage_of, rows_of, with_rows}
@@ -35,10 +36,10 @@ use Rattle.edit_rules.proofs.Outcomes.{faulty-done, own-index}
 
 -- ---- an edit that is answered Done is applied
 
-done-applied : (v : Edited) (ts : Tables) (e : Edit) → (settled v ts e).answer ≡ Done → (settled v ts e).rows ≡ applied ts e
-done-applied Done ts e h = split (is_full ts e) (λ f. absurd (faulty-done (rw f at h))) (λ f. rw f)
-done-applied (Barred c) ts e h = let z : ◌≡◌ {A = ℕ} 0 1 = cc h in absurd (omega arith)
-done-applied (Faulty f) ts e h = absurd (faulty-done h)
+done-applied : (v : Edited) (ts : Tables) (e : Edit) → (settled v ts e).answer ≡ (Ok tt) → (settled v ts e).rows ≡ applied ts e
+done-applied (Ok tt) ts e h = split (is_full ts e) (λ f. absurd (faulty-done (rw f at h))) (λ f. rw f)
+done-applied (Err (Barred c)) ts e h = let z : ◌≡◌ {A = ℕ} 0 1 = cc h in absurd (omega arith)
+done-applied (Err (Faulty f)) ts e h = absurd (faulty-done h)
 
 own-table : (t : Table) (ts : Tables) (rs : List (RowOf t)) → rows_of t (with_rows t ts rs) ≡ rs
 own-table Context ts rs = refl
@@ -112,9 +113,9 @@ held-nine strict o old new =
 pub settled-nine : (v : Edited) (ts : Tables) (e : Edit) → eqb (edited_number v) 9 ≡ false → eqb (edited_number (settled v ts e).answer) 9 ≡ true
     → is_create e.operation ≡ true
 unfolding is_full
-settled-nine Done ts e h k = split (is_full ts e) (λ f. and_left (is_create e.operation) _ f) (λ f. clash (rw f at k) refl)
-settled-nine (Barred c) ts e h k = clash k h
-settled-nine (Faulty f) ts e h k = clash k h
+settled-nine (Ok tt) ts e h k = split (is_full ts e) (λ f. and_left (is_create e.operation) _ f) (λ f. clash (rw f at k) refl)
+settled-nine (Err (Barred c)) ts e h k = clash k h
+settled-nine (Err (Faulty f)) ts e h k = clash k h
 
 module _ (strict : Bool) (ts : Tables) (e : Edit) where
   abbrev old : Option ℕ
@@ -127,21 +128,21 @@ module _ (strict : Bool) (ts : Tables) (e : Edit) where
   unfolding row_fault
   fault-is q = ap (λ o. held_fault strict o old new) q
 
-  create_held : e.operation ≡ Create → is_none (row_held ts e) ≡ false → edit strict ts e ≡ outcome (Faulty RowHeld) ts
+  create_held : e.operation ≡ Create → is_none (row_held ts e) ≡ false → edit strict ts e ≡ outcome (Err (Faulty RowHeld)) ts
   unfolding edit
   create_held q h = ap (λ f. settled (faulted f) ts e) (fault-is q ∙ create-fault strict old new (map-none (storage_of e.table) (row_held ts e) ∙ h))
 
-  change_absent : e.operation ≡ Change → row_held ts e ≡ none → edit strict ts e ≡ outcome (Faulty RowAbsent) ts
+  change_absent : e.operation ≡ Change → row_held ts e ≡ none → edit strict ts e ≡ outcome (Err (Faulty RowAbsent)) ts
   unfolding edit
   change_absent q h =
       ap (λ f. settled (faulted f) ts e)
       (fault-is q ∙ change-fault strict old new (map-none (storage_of e.table) (row_held ts e) ∙ ap is_none h))
 
-  done-rows : (edit strict ts e).answer ≡ Done → (edit strict ts e).rows ≡ applied ts e
+  done-rows : (edit strict ts e).answer ≡ (Ok tt) → (edit strict ts e).rows ≡ applied ts e
   unfolding edit
   done-rows d = done-applied (faulted (row_fault strict ts e)) ts e d
 
-  create_adds : e.operation ≡ Create → (edit strict ts e).answer ≡ Done
+  create_adds : e.operation ≡ Create → (edit strict ts e).answer ≡ (Ok tt)
       → (row_held ts e ≡ none) × Stands ts e (edit strict ts e).rows
       × (length (rows_of e.table (edit strict ts e).rows) ≡ suc (length (rows_of e.table ts)))
   create_adds q d =
@@ -150,7 +151,7 @@ module _ (strict : Bool) (ts : Tables) (e : Edit) where
       (λ h. let n = is-none (row_held ts e) h in (n, rw (done-rows d) (put-stands ts e s), rw (done-rows d) (one_more ts e s n)))
       (λ h. absurd (faulty-done (sym (ap (λ o. o.answer) (create_held q h)) ∙ d)))
 
-  change_replaces : e.operation ≡ Change → (edit strict ts e).answer ≡ Done → (is_none (row_held ts e) ≡ false) × Stands ts e (edit strict ts e).rows
+  change_replaces : e.operation ≡ Change → (edit strict ts e).answer ≡ (Ok tt) → (is_none (row_held ts e) ≡ false) × Stands ts e (edit strict ts e).rows
   change_replaces q d =
       split (is_none (row_held ts e))
       (λ h. absurd (faulty-done (sym (ap (λ o. o.answer) (change_absent q (is-none (row_held ts e) h))) ∙ d)))
@@ -160,7 +161,7 @@ module _ (strict : Bool) (ts : Tables) (e : Edit) where
   unfolding row_fault
   row-nine = held-nine strict e.operation old new
 
-  full_creates : (edit strict ts e).answer ≡ Faulty TableFull → is_create e.operation ≡ true
+  full_creates : (edit strict ts e).answer ≡ Err (Faulty TableFull) → is_create e.operation ≡ true
   unfolding edit
   full_creates h = settled-nine (faulted (row_fault strict ts e)) ts e row-nine (ap (λ v. eqb (edited_number v) 9) h)
 

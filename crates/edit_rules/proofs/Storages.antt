@@ -66,10 +66,6 @@ storage-room Mapping n row h = omega (arith, two-left (take 3 (row_fields Mappin
 storage-room Access n row h = omega (arith, two-left (take 8 (row_fields Access)) 2 5 1 2 row h)
 storage-room View n row h = omega (arith, two-left (take 4 (row_fields View)) 2 5 1 2 row h)
 
--- a part of two bytes at least
-pub piece_length : (w : List ℕ) (a e : ℕ) → (a + 2 ≤ e) × (e ≤ length w) → 2 ≤ length (piece w a e)
-piece_length w a e h = omega (arith, length-take (e - a) (drop a w), length-drop a w)
-
 -- ---- the row held at the place of a key
 
 pub whole-held : (t : Table) (key : List ℕ) (rs : List (List ℕ)) → Whole t rs → is_held key rs ≡ true → faults (row_fields t)

@@ -2,8 +2,9 @@
 -- are judged by the row held, room, what they leave; who makes them, and how the tables judge a principal's. Assumes nothing.
 use Rattle.std.specs.Prelude.{Bool, true, false, cond, not, ◌&&◌, ◌||◌, List, [], ◌∷◌, ℕ, eqb, leb, length}
 use Rattle.std.proofs.Math.Option.{Option, none, some, map}
-use Rattle.answers.specs.declared.Decision.{Decision}
-use Rattle.answers.specs.declared.Decision.TheVariants.{Allowed, Refused}
+use Rattle.std.specs.Prelude.{Ok, Err}
+use Rattle.answers.specs.declared.Refusal.TheVariants.{Barred, Faulty}
+use Rattle.answers.specs.Types.{Decision}
 use Rattle.answers.specs.declared.Fault.{Fault}
 use Rattle.answers.specs.declared.Fault.TheVariants.{TableFull, RowAbsent, StorageForbids, RowHeld}
 use Rattle.answers.specs.Numbers.{cause_number, fault_number}
@@ -19,8 +20,7 @@ use Rattle.decision_steps.specs.Request.{asked, longest_name, no_auth_no_priv, a
 use Rattle.decision_steps.specs.Decision.{decision}
 use Rattle.edit_rules.specs.declared.Operation.{Operation}
 use Rattle.edit_rules.specs.declared.Operation.TheVariants.{Create, Change, Remove}
-use Rattle.edit_rules.specs.declared.Edited.{Edited}
-use Rattle.edit_rules.specs.declared.Edited.TheVariants.{Done, Barred, Faulty}
+use Rattle.edit_rules.specs.Types.{Edited}
 use Rattle.edit_rules.specs.TableRows.{permanent, read_only, RowOf, row_of, row_index, storage_of, rows_of, with_rows}
 use Rattle.table_update.specs.Tables.{row_at, put_row, remove_row}
 use Rattle.instance_encode.specs.Instances.{columns, instance, status_column}
@@ -113,9 +113,9 @@ applied ts e =
 
 -- document 01's number for each case
 abbrev pub edited_number : Edited → ℕ
-edited_number Done = 0
-edited_number (Barred c) = cause_number c
-edited_number (Faulty f) = fault_number f
+edited_number (Ok tt) = 0
+edited_number (Err (Barred c)) = cause_number c
+edited_number (Err (Faulty f)) = fault_number f
 
 pub record Outcome : Type 0 where
   pub answer : Edited
@@ -126,13 +126,13 @@ outcome r ts = record { answer = r; rows = ts }
 
 -- as an edit is judged, Done where nothing stands against it; then room; then it is applied. A refusal changes nothing.
 abbrev pub settled : Edited → Tables → Edit → Outcome
-settled Done ts e = cond (is_full ts e) (outcome (Faulty TableFull) ts) (outcome Done (applied ts e))
-settled (Barred c) ts e = outcome (Barred c) ts
-settled (Faulty f) ts e = outcome (Faulty f) ts
+settled (Ok tt) ts e = cond (is_full ts e) (outcome (Err (Faulty TableFull)) ts) (outcome (Ok tt) (applied ts e))
+settled (Err (Barred c)) ts e = outcome (Err (Barred c)) ts
+settled (Err (Faulty f)) ts e = outcome (Err (Faulty f)) ts
 
 abbrev pub faulted : Option Fault → Edited
-faulted none = Done
-faulted (some f) = Faulty f
+faulted none = (Ok tt)
+faulted (some f) = Err (Faulty f)
 
 -- an edit whose bytes are legal and that the tables let be made
 unfoldable pub edit : Bool → Tables → Edit → Outcome
@@ -170,11 +170,11 @@ column_judged ts c t index column =
     decision ts (asked c.security_model c.security_name c.security_level write [] (instance t column index))
 
 abbrev pub if_allowed : Decision → Decision → Decision
-if_allowed Allowed next = next
-if_allowed (Refused cause) next = Refused cause
+if_allowed (Ok tt) next = next
+if_allowed (Err cause) next = Err cause
 
 abbrev pub first_refusal : (ℕ → Decision) → List ℕ → Decision
-first_refusal judged [] = Allowed
+first_refusal judged [] = (Ok tt)
 first_refusal judged (column ∷ columns) = if_allowed (judged column) (first_refusal judged columns)
 
 unfoldable pub judgement_at : Tables → Caller → Shape → Table → List ℕ → Decision

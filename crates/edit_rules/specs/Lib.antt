@@ -1,3 +1,4 @@
+pub mod Types
 pub mod TableRows
 pub mod Edits
 pub mod Columns

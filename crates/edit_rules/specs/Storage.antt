@@ -1,6 +1,8 @@
 -- The storage of a row where its bytes lie, and of the row held at a place; what stands against an edit at the place of its key. Assumes nothing.
 use Rattle.std.specs.Prelude.{◌≡◌, Bool, true, cond, not, ◌&&◌, List, ℕ, ◌+◌, ◌-◌, ◌≤◌, leb, length, take, drop, get_or}
 use Rattle.std.proofs.Math.Option.{Option, none, some}
+use Rattle.std.specs.Prelude.{Ok, Err}
+use Rattle.answers.specs.declared.Refusal.TheVariants.{Faulty}
 use Rattle.answers.specs.declared.Fault.{Fault}
 use Rattle.answers.specs.declared.Fault.TheVariants.{TableFull, StorageForbids}
 use Rattle.rows.specs.declared.Shape.{Shape}
@@ -8,8 +10,7 @@ use Rattle.rows.specs.declared.Shape.TheVariants.{Row, Key}
 use Rattle.rows.specs.Fields.{or_else}
 use Rattle.table_update.specs.declared.Place.{Place}
 use Rattle.edit_rules.specs.declared.Operation.{Operation}
-use Rattle.edit_rules.specs.declared.Edited.{Edited}
-use Rattle.edit_rules.specs.declared.Edited.TheVariants.{Done, Faulty}
+use Rattle.edit_rules.specs.Types.{Edited}
 use Rattle.edit_rules.specs.TableRows.{volatile}
 use Rattle.edit_rules.specs.Edits.{shape_of, is_create, may_put, may_remove, presence_fault}
 
@@ -41,8 +42,8 @@ place_fault strict o present old new = or_else (presence_fault o present) (cond 
 
 -- then 9, in a table of so many rows
 abbrev pub placed : Option Fault → Bool → Edited
-placed (some f) full = Faulty f
-placed none full = cond full (Faulty TableFull) Done
+placed (some f) full = Err (Faulty f)
+placed none full = cond full (Err (Faulty TableFull)) (Ok tt)
 
 abbrev pub full_at : Operation → ℕ → ℕ → Bool
 full_at o limit count = is_create o && leb limit count

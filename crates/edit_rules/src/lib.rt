@@ -10,7 +10,7 @@ use decision::{AUTH_PRIV, LONGEST_NAME, NO_AUTH_NO_PRIV};
 use rows::{MODEL_MAX, Shape};
 
 // What an edit does with a row: create one that is not held, change or remove one that is.
-#[derive(Clone, Copy)]
+#[derive(Clone, Copy, PartialEq, Eq, Debug)]
 pub enum Operation {
     Create,
     Change,
@@ -22,8 +22,7 @@ pub fn shape_of(o: Operation) -> Shape
     ensures { result ≡ shape_of o }
 {
     match o {
-        Operation::Create => Shape::Row,
-        Operation::Change => Shape::Row,
+        Operation::Create | Operation::Change => Shape::Row,
         Operation::Remove => Shape::Key,
     }
 }
@@ -31,26 +30,15 @@ pub fn shape_of(o: Operation) -> Shape
 pub fn is_create(o: Operation) -> bool
     ensures { result ≡ is_create o }
 {
-    match o {
-        Operation::Create => true,
-        Operation::Change => false,
-        Operation::Remove => false,
-    }
-}
-
-// The answer of an edit.
-#[derive(Clone, Copy)]
-pub enum Edited {
-    Done,
-    Barred(Cause),
-    Faulty(Fault),
+    o == Operation::Create
 }
 
 // The fields of a caller are in their ranges.
+#[tactic(auto, unfolding(crate::specs::Edits::legal_caller))]
 pub fn is_caller(security_model: u32, security_name: &[u8], security_level: u32) -> bool
     ensures { result ≡ legal_caller (caller_of security_model security_name.now security_level) }
 {
-    ((1 <= security_model) & (security_model <= MODEL_MAX))
-        & ((1 <= security_name.len()) & (security_name.len() <= LONGEST_NAME))
-        & ((NO_AUTH_NO_PRIV <= security_level) & (security_level <= AUTH_PRIV))
+    (1..=MODEL_MAX).contains(&security_model)
+        && (1..=LONGEST_NAME).contains(&security_name.len())
+        && (NO_AUTH_NO_PRIV..=AUTH_PRIV).contains(&security_level)
 }

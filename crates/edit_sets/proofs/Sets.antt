@@ -9,6 +9,8 @@ use mathlib.Core.Option.{some}
 use Prim.Native.Nat.{ℕ, zero, suc, ◌-◌, ◌≤◌}
 use native.Mathlib.Omega.{arith}
 use lib.ListN.{length, length-map}
+use Rattle.std.specs.Prelude.{Ok, Err}
+use Rattle.answers.specs.declared.Refusal.TheVariants.{Faulty}
 use Rattle.answers.specs.declared.Fault.TheVariants.{OutOfRange, NotASet}
 use Rattle.numbers.specs.BigEndian.{Octets}
 use Rattle.numbers.proofs.BigEndian.{octets-take, octets-drop}
@@ -23,11 +25,10 @@ use Rattle.image_layout.specs.declared.Layout.{Layout}
 use Rattle.image_layout.specs.Layout.{layout_of, extent_of}
 use Rattle.image_judge.specs.Faults.{tables_at}
 use Rattle.image.specs.Store.{is_sound, held}
-use Rattle.decision_parts.specs.declared.Standing.{Standing}
+use Rattle.decision_parts.specs.Types.{Standing}
 use Rattle.table_update.specs.Exchange.{table_rows}
 use Rattle.table_update.proofs.Splits.{length-rows}
-use Rattle.edit_rules.specs.declared.Edited.{Edited}
-use Rattle.edit_rules.specs.declared.Edited.TheVariants.{Done, Faulty}
+use Rattle.edit_rules.specs.Types.{Edited}
 use Rattle.edit_rules.specs.TableRows.{row_of, rows_of}
 use Rattle.edit_rules.specs.Edits.{Edit, Caller, shape_of, index_of_edit, legal_caller}
 use Rattle.edit_rules.proofs.Outcomes.{tables, rows_in_lem}
@@ -78,7 +79,7 @@ module _ (c : Caller) (x : EditSet) (bytes : List ℕ) (b : Octets bytes) (w : L
   refusal : {a r : SetAnswer} → r ≡ a → PrincipalSets c es w w a → PrincipalSets c es w w r
   refusal e p = subst (λ v. PrincipalSets c es w w v) (sym e) p
 
-  pub no-set : is_set es ≡ false → {r : SetAnswer} → r ≡ answer_at (Faulty NotASet) 0 → PrincipalSets c es w w r
+  pub no-set : is_set es ≡ false → {r : SetAnswer} → r ≡ answer_at (Err (Faulty NotASet)) 0 → PrincipalSets c es w w r
   no-set s e = refusal e (set-refused c es w rows-held (not-a-set ts c es s) refl)
 
   module _ (s : is_set es ≡ true) where
@@ -86,7 +87,7 @@ module _ (c : Caller) (x : EditSet) (bytes : List ℕ) (b : Octets bytes) (w : L
     unfolding is_set
     few = omega (arith, within-most 1 most_edits (length es) (and_left (within 1 most_edits (length es)) _ s), length-edits x.edits bytes 0 x.count)
 
-    pub no-caller : legal_caller c ≡ false → {r : SetAnswer} → r ≡ answer_at (Faulty OutOfRange) 0 → PrincipalSets c es w w r
+    pub no-caller : legal_caller c ≡ false → {r : SetAnswer} → r ≡ answer_at (Err (Faulty OutOfRange)) 0 → PrincipalSets c es w w r
     no-caller l e = refusal e (set-refused c es w rows-held (not-a-caller ts c es s l) refl)
 
     module _ (k : legal_caller c ≡ true) {l : Layout} (q : l ≡ layout_of w) where
@@ -114,10 +115,10 @@ module _ (c : Caller) (x : EditSet) (bytes : List ℕ) (b : Octets bytes) (w : L
             sym (e ∙ refused-same (judged_with w l standing) (principal_judged (tables_at w l) c) judged-with 1 es
             ∙ ap (λ u. first_refused (principal_judged u c) 1 es) tables-laid)
 
-        pub refused : (a.answer ≡ Done → ⊥) → PrincipalSets c es w w a
+        pub refused : (a.answer ≡ (Ok tt) → ⊥) → PrincipalSets c es w w a
         refused n = set-refused c es w rows-held (edit-refused ts c es s k judged-is (undone a.answer n)) (undone a.answer n)
 
-        module _ (d : a.answer ≡ Done) {r : SetAnswer} (f : r ≡ counted_room (λ t. (extent_of t l).count) (edits_from x.edits [] 0 x.count)) where
+        module _ (d : a.answer ≡ (Ok tt)) {r : SetAnswer} (f : r ≡ counted_room (λ t. (extent_of t l).count) (edits_from x.edits [] 0 x.count)) where
           done : is_done (first_refused (principal_judged ts c) 1 es).answer ≡ true
           done = ap (λ (v : SetAnswer). is_done v.answer) judged-is ∙ ap is_done d
 
@@ -128,10 +129,10 @@ module _ (c : Caller) (x : EditSet) (bytes : List ℕ) (b : Octets bytes) (w : L
           room_is =
               f ∙ counted_same x.edits bytes x.count (λ t. (extent_of t l).count) (λ t. length (rows_of t ts)) counts ∙ room-counted ts es in_order
 
-          pub full : (r.answer ≡ Done → ⊥) → PrincipalSets c es w w r
+          pub full : (r.answer ≡ (Ok tt) → ⊥) → PrincipalSets c es w w r
           full n = set-refused c es w rows-held (room-judged ts c es s k done ∙ sym room_is) (undone r.answer n)
 
-          module _ (g : r.answer ≡ Done) where
+          module _ (g : r.answer ≡ (Ok tt)) where
             spare : is_done (room (applied_all ts es) es).answer ≡ true
             spare = ap (λ (v : SetAnswer). is_done v.answer) (sym room_is) ∙ ap is_done g
 

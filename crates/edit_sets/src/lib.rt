@@ -3,23 +3,24 @@
 #![tactic(auto)]
 
 ghost use Rattle.std.specs.Prelude.{◌≡◌, true, ◌∷◌, [], ◌≤◌};
+ghost use Rattle.std.specs.Prelude.{Err};
+ghost use Rattle.answers.specs.declared.Refusal.TheVariants.{Faulty};
 ghost use Rattle.image_layout.specs.Layout.{layout_of};
 ghost use Rattle.image.specs.Store.{is_sound};
 ghost use Rattle.edit_rules.specs.Edits.{caller_of, shape_of};
-ghost use Rattle.edit_rules.specs.declared.Edited.TheVariants.{Faulty};
 ghost use Rattle.set_rules.specs.Sets.{most_edits, answer_at};
 ghost use Rattle.set_rules.specs.Handed.{edit_in, edits_from, edits_of};
 ghost use Rattle.set_rules.specs.Made.{has_shape, of_shape, Makes};
 ghost use Rattle.set_rules.specs.Promise.{PrincipalSets};
 
-use answers::Fault;
-use edit_rules::{Edited, Operation};
-use image_judge::Surveyed;
+use answers::{Fault, Refusal};
+use edit_rules::Operation;
 use image_layout::{Extent, HEADER, Layout};
 use rows::Shape;
 use set_rules::{EditSet, MOST_EDITS, SetAnswer, SetEdit};
 
 // Where the tables of a sound store lie, by its counts and lengths.
+// beside `image::survey`, which tests each count before it reads on: here the store is known to be sound, and nothing is tested again
 fn layout_of(w: &[u8]) -> Layout
     requires { is_sound w.now ≡ true }
     ensures { result ≡ layout_of w.now }
@@ -47,16 +48,7 @@ fn layout_of(w: &[u8]) -> Layout
 fn has_shape(o: Operation, s: Shape) -> bool
     ensures { result ≡ has_shape s (shape_of o) }
 {
-    match edit_rules::shape_of(o) {
-        Shape::Row => match s {
-            Shape::Row => true,
-            Shape::Key => false,
-        },
-        Shape::Key => match s {
-            Shape::Row => false,
-            Shape::Key => true,
-        },
-    }
+    edit_rules::shape_of(o) == s
 }
 
 // Makes an edit, if it is handed what is asked for.
@@ -64,14 +56,11 @@ fn make(w: &mut [u8], s: Shape, x: SetEdit, bytes: &[u8])
     requires { is_sound w.old ≡ true }
     ensures { Makes (of_shape s (edit_in x bytes.now ∷ [])) w.old w.new }
 {
-    let o = x.operation;
-    let t = x.table;
-    if !has_shape(o, s) {
+    if !has_shape(x.operation, s) {
         return;
     }
     let l = layout_of(w);
-    let own = set_judge::bytes_of(x, bytes);
-    edits::edit_laid(w, l, o, t, own);
+    let _ = edits::edit_laid(w, l, x.operation, x.table, set_judge::bytes_of(x, bytes));
 }
 
 // Makes those of the edits that are handed rows, or keys, in their order.
@@ -80,19 +69,17 @@ fn make_all(w: &mut [u8], s: Shape, edits: [SetEdit; MOST_EDITS], count: usize, 
     requires sound { is_sound w.old ≡ true }
     ensures { Makes (of_shape s (edits_from edits bytes.now 0 count)) w.old w.new }
 {
-    let mut i = 0;
-    while i < count {
+    for i in 0..count {
         make(w, s, edits[i], bytes);
-        i += 1;
     }
 }
 
 // A refusal of the whole set, about no edit of it.
 fn refused(f: Fault) -> SetAnswer
-    ensures { result ≡ answer_at (Faulty f) 0 }
+    ensures { result ≡ answer_at (Err (Faulty f)) 0 }
 {
     SetAnswer {
-        answer: Edited::Faulty(f),
+        answer: Err(Refusal::Faulty(f)),
         position: 0,
     }
 }
@@ -109,8 +96,7 @@ pub fn principal_set(
     ensures { PrincipalSets (caller_of security_model security_name.now security_level) (edits_of «set» bytes.now)
         store.old store.new result }
 {
-    let surveyed = image::survey_store(store);
-    let Surveyed::Laid(l) = surveyed else {
+    let Ok(l) = image::survey_store(store) else {
         return refused(Fault::NotSound);
     };
     if !set_judge::is_set(set, bytes) {
@@ -129,13 +115,11 @@ pub fn principal_set(
         security_level,
     );
     let judged = set_judge::judge_edits(store, l, standing, edits, count, bytes);
-    let answer = judged.answer;
-    let Edited::Done = answer else {
+    let Ok(()) = judged.answer else {
         return judged;
     };
     let room = set_judge::judge_room(l, edits, count);
-    let full = room.answer;
-    let Edited::Done = full else {
+    let Ok(()) = room.answer else {
         return room;
     };
     make_all(store, Shape::Key, edits, count, bytes);

@@ -6,20 +6,13 @@ ghost use Rattle.std.proofs.Math.Option.{some};
 ghost use Rattle.edit_rules.specs.Edits.{is_fixed, may_put};
 ghost use Rattle.edit_rules.specs.Storage.{storage_in, StorageIn, storage_at, StorageKnown, may_edit};
 
-use rows::Shape;
+use rows::{PERMANENT, READ_ONLY, Shape, VOLATILE};
 use table_update::Place;
-
-// The values of a row's storage that are tested.
-const VOLATILE: u8 = 2;
-
-const PERMANENT: u8 = 4;
-
-const READ_ONLY: u8 = 5;
 
 fn is_fixed(storage: u8) -> bool
     ensures { result ≡ is_fixed storage }
 {
-    (storage == PERMANENT) | (storage == READ_ONLY)
+    matches!(storage, PERMANENT | READ_ONLY)
 }
 
 // A mapping, access or view row has its storage in its last octet but one.
@@ -27,8 +20,7 @@ fn storage(row: &[u8]) -> u8
     requires { 2 ≤ length row.now }
     ensures { result ≡ storage_in row.now }
 {
-    let at = row.len() - 2;
-    row[at]
+    row[row.len() - 2]
 }
 
 // Where no row is held, nothing is forbidden that a volatile row would allow.
@@ -36,29 +28,27 @@ fn held_storage(w: &[u8], p: Place) -> u8
     requires { StorageIn w.now p }
     ensures { result ≡ storage_at w.now p }
 {
-    let present = p.present;
-    if !present {
-        return VOLATILE;
+    if p.present {
+        storage(&w[p.from..p.end])
+    } else {
+        VOLATILE
     }
-    let from = p.from;
-    let end = p.end;
-    storage(&w[from..end])
 }
 
 // A row of storage `old` may give way to one of storage `new`.
+#[tactic(auto, unfolding(edit_rules::specs::Edits::may_put))]
 fn may_replace(old: u8, new: u8) -> bool
     ensures { result ≡ may_put (some old) new }
 {
-    if old == READ_ONLY {
-        return false;
+    match old {
+        READ_ONLY => false,
+        PERMANENT => new == PERMANENT,
+        _ => !is_fixed(new),
     }
-    if old == PERMANENT {
-        return new == PERMANENT;
-    }
-    !is_fixed(new)
 }
 
 // The storage of the row held, and of the row put, lets a principal make the edit.
+#[tactic(auto, unfolding(edit_rules::specs::Edits::may_remove))]
 pub fn may_edit(w: &[u8], s: Shape, p: Place, bytes: &[u8]) -> bool
     requires { StorageKnown s w.now p bytes.now }
     ensures { result ≡ may_edit s (storage_at w.now p) (storage_in bytes.now) }

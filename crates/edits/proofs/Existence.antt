@@ -5,8 +5,9 @@ use mathlib.Core.Path.{◌≡◌, refl}
 use mathlib.Core.Bool.{Bool, true, false}
 use mathlib.Core.List.{List}
 use Prim.Native.Nat.{ℕ}
-use Rattle.answers.specs.declared.Decision.{Decision}
-use Rattle.answers.specs.declared.Decision.TheVariants.{Allowed, Refused}
+use Rattle.std.specs.Prelude.{Ok, Err}
+use Rattle.answers.specs.declared.Refusal.TheVariants.{Barred, Faulty}
+use Rattle.answers.specs.Types.{Decision}
 use Rattle.answers.specs.declared.Fault.TheVariants.{OutOfRange, ContextTable}
 use Rattle.numbers.proofs.Bools.{split, clash}
 use Rattle.numbers.specs.BigEndian.{Octets}
@@ -14,28 +15,26 @@ use Rattle.rows.specs.Tables.{Tables}
 use Rattle.image_layout.specs.Layout.{layout_of}
 use Rattle.image_judge.specs.Faults.{tables_at}
 use Rattle.image.specs.Store.{is_sound}
-use Rattle.edit_rules.specs.declared.Edited.{Edited}
-use Rattle.edit_rules.specs.declared.Edited.TheVariants.{Barred, Faulty}
+use Rattle.edit_rules.specs.Types.{Edited}
 use Rattle.edit_rules.specs.Edits.{Outcome, Edit, Caller, edit, legal_edit, legal_caller, is_context, judgement}
 use Rattle.edit_rows.specs.Promise.{Edits}
 use Rattle.edit_rows.proofs.Stores.{edits-unsound}
 use Rattle.edit_rows.proofs.Existence.{Made, edit-made}
-use Rattle.edits.specs.declared.Prepared.TheVariants.{Unready}
 use Rattle.edits.specs.Calls.{owner_edit, principal_edit, prepared}
-use Rattle.edits.proofs.Calls.{ready-whole, unready-principal, owner-illegal, owner-legal, caller-illegal, principal-denied, principal-granted}
+use Rattle.edits.proofs.Calls.{legal-whole, unready-principal, owner-illegal, owner-legal, caller-illegal, principal-denied, principal-granted}
 
 -- a store that stays
 stays : (f : Tables → Outcome) (w : List ℕ) → Octets w → {r : Edited} → Edits f w w r → Made f w
 stays f w b {r} p = record { left = w; answered = r; promise = p; octets = b }
 
 module _ (e : Edit) (d : Octets e.bytes) (w : List ℕ) (b : Octets w) where
-  unready-is : legal_edit e ≡ false → is_sound w ≡ true → Unready OutOfRange ≡ prepared w e.operation e.table e.bytes
+  unready-is : legal_edit e ≡ false → is_sound w ≡ true → Err OutOfRange ≡ prepared w e.operation e.table e.bytes
   unready-is l h = rw (h, l)
 
   -- a legal edit of a sound store
   made : (strict : Bool) → (strict ≡ true → is_context e.table ≡ false) → is_sound w ≡ true → legal_edit e ≡ true → Made (λ t. edit strict t e) w
   made strict n h l =
-      edit-made e.operation e.table w h b strict n e.bytes d (ready-whole e.operation e.table w e.bytes l)
+      edit-made e.operation e.table w h b strict n e.bytes d (legal-whole e.operation e.table e.bytes l)
 
   pub owner-made : Made (λ t. owner_edit t e) w
   owner-made =
@@ -54,7 +53,7 @@ module _ (e : Edit) (d : Octets e.bytes) (w : List ℕ) (b : Octets w) where
     -- as the tables judge it
     judged-made : is_sound w ≡ true → legal_caller c ≡ true → legal_edit e ≡ true → is_context e.table ≡ false → (j : Decision)
         → j ≡ judgement (tables_at w (layout_of w)) c e → Made f w
-    judged-made h k l o Allowed q =
+    judged-made h k l o (Ok tt) q =
         let m = made true (λ y. o) h l in
         record {
           left = m.left;
@@ -62,7 +61,7 @@ module _ (e : Edit) (d : Octets e.bytes) (w : List ℕ) (b : Octets w) where
           promise = principal-granted c e w h k l refl (rw (o, ← q)) m.promise;
           octets = m.octets;
         }
-    judged-made h k l o (Refused x) q = stays f w b (principal-denied c e w h k l refl {r = Barred x} (rw (o, ← q)))
+    judged-made h k l o (Err x) q = stays f w b (principal-denied c e w h k l refl {r = Err (Barred x)} (rw (o, ← q)) refl)
 
     pub principal-made : Made f w
     principal-made =
@@ -70,7 +69,7 @@ module _ (e : Edit) (d : Octets e.bytes) (w : List ℕ) (b : Octets w) where
         (λ h. split (legal_edit e)
         (λ l. split (legal_caller c)
         (λ k. split (is_context e.table)
-        (λ o. stays f w b (principal-denied c e w h k l refl {r = Faulty ContextTable} (rw o)))
+        (λ o. stays f w b (principal-denied c e w h k l refl {r = Err (Faulty ContextTable)} (rw o) refl))
         (λ o. judged-made h k l o (judgement (tables_at w (layout_of w)) c e) refl))
         (λ k. stays f w b (caller-illegal c e w h k)))
         (λ l. stays f w b (unready-principal e.operation e.table w e.bytes c (unready-is l h))))

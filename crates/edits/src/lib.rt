@@ -9,26 +9,24 @@ ghost use Rattle.edit_rules.specs.Edits.{edit_of, shape_of, caller_of};
 ghost use Rattle.edit_rows.specs.Promise.{Editable};
 ghost use Rattle.edits.specs.Calls.{OwnerEdits, PrincipalEdits, edited_number, prepared};
 
-use answers::Fault;
-use edit_rights::Admission;
-use edit_rules::{Edited, Operation};
-use image_judge::Surveyed;
+use answers::{Fault, Refusal};
+use edit_rules::Operation;
 use image_layout::Layout;
-use rows::{Shape, Step, Table};
+use rows::{Shape, Table};
 
 // The number of an edit's answer.
-pub fn edited_number(e: Edited) -> u32
+pub fn edited_number(e: Result<(), Refusal>) -> u32
     ensures { result ≡ edited_number e }
 {
     match e {
-        Edited::Done => 0,
-        Edited::Barred(c) => answers::cause_number(c),
-        Edited::Faulty(f) => answers::fault_number(f),
+        Ok(()) => 0,
+        Err(Refusal::Barred(c)) => answers::cause_number(c),
+        Err(Refusal::Faulty(f)) => answers::fault_number(f),
     }
 }
 
 // What an edit is handed, judged: where its key ends.
-pub fn judge_handed(o: Operation, t: Table, bytes: &[u8]) -> Step
+pub fn judge_handed(o: Operation, t: Table, bytes: &[u8]) -> Result<usize, Fault>
     ensures { result ≡ reached (faults (fields_of (shape_of o) t) bytes.now) (span (key_fields t) bytes.now) }
 {
     match edit_rules::shape_of(o) {
@@ -37,47 +35,34 @@ pub fn judge_handed(o: Operation, t: Table, bytes: &[u8]) -> Step
     }
 }
 
-// A sound store and legal bytes: where the tables lie, and where the key ends.
-#[derive(Clone, Copy)]
-enum Prepared {
-    Ready(Layout, usize),
-    Unready(Fault),
-}
-
-fn prepare(store: &[u8], o: Operation, t: Table, bytes: &[u8]) -> Prepared
+fn prepare(store: &[u8], o: Operation, t: Table, bytes: &[u8]) -> Result<(Layout, usize), Fault>
     ensures { result ≡ prepared store.now o t bytes.now }
 {
-    let surveyed = image::survey_store(store);
-    let Surveyed::Laid(l) = surveyed else {
-        return Prepared::Unready(Fault::NotSound);
-    };
-    let step = judge_handed(o, t, bytes);
-    let Step::At(k) = step else {
-        return Prepared::Unready(Fault::OutOfRange);
-    };
-    Prepared::Ready(l, k)
+    let l = image::survey_store(store)?;
+    let k = judge_handed(o, t, bytes).or(Err(Fault::OutOfRange))?;
+    Ok((l, k))
 }
 
 // The owner's edit of a store that is sound, its tables lying so.
-pub fn edit_laid(store: &mut [u8], l: Layout, o: Operation, t: Table, bytes: &[u8]) -> Edited
+pub fn edit_laid(
+    store: &mut [u8],
+    l: Layout,
+    o: Operation,
+    t: Table,
+    bytes: &[u8],
+) -> Result<(), Refusal>
     requires { Editable false t store.old l }
     ensures { OwnerEdits (edit_of o t bytes.now) store.old store.new result }
 {
-    let step = judge_handed(o, t, bytes);
-    let Step::At(k) = step else {
-        return Edited::Faulty(Fault::OutOfRange);
-    };
+    let k = judge_handed(o, t, bytes).or(Err(Fault::OutOfRange))?;
     edit_rows::edit(store, l, false, o, t, bytes, k)
 }
 
 // The owner creates a row, changes the row with its key, or removes the row with a key.
-pub fn owner_edit(store: &mut [u8], o: Operation, t: Table, bytes: &[u8]) -> Edited
+pub fn owner_edit(store: &mut [u8], o: Operation, t: Table, bytes: &[u8]) -> Result<(), Refusal>
     ensures { OwnerEdits (edit_of o t bytes.now) store.old store.new result }
 {
-    let surveyed = image::survey_store(store);
-    let Surveyed::Laid(l) = surveyed else {
-        return Edited::Faulty(Fault::NotSound);
-    };
+    let l = image::survey_store(store)?;
     edit_laid(store, l, o, t, bytes)
 }
 
@@ -90,30 +75,21 @@ pub fn principal_edit(
     o: Operation,
     t: Table,
     bytes: &[u8],
-) -> Edited
+) -> Result<(), Refusal>
     ensures { PrincipalEdits (caller_of security_model security_name.now security_level) (edit_of o t bytes.now)
         store.old store.new result }
 {
-    let prepared = prepare(store, o, t, bytes);
-    match prepared {
-        Prepared::Unready(f) => Edited::Faulty(f),
-        Prepared::Ready(l, k) => {
-            if !edit_rules::is_caller(security_model, security_name, security_level) {
-                return Edited::Faulty(Fault::OutOfRange);
-            }
-            let standing = edit_rights::standing_of(
-                store,
-                l,
-                security_model,
-                security_name,
-                security_level,
-            );
-            let key = &bytes[0..k];
-            let admission = edit_rights::admit(store, standing, edit_rules::shape_of(o), t, key);
-            if let Admission::Denied(r) = admission {
-                return r;
-            }
-            edit_rows::edit(store, l, true, o, t, bytes, k)
-        }
+    let (l, k) = prepare(store, o, t, bytes)?;
+    if !edit_rules::is_caller(security_model, security_name, security_level) {
+        return Err(Refusal::Faulty(Fault::OutOfRange));
     }
+    let standing = edit_rights::standing_of(
+        store,
+        l,
+        security_model,
+        security_name,
+        security_level,
+    );
+    edit_rights::admit(store, standing, edit_rules::shape_of(o), t, &bytes[0..k])?;
+    edit_rows::edit(store, l, true, o, t, bytes, k)
 }

@@ -3,27 +3,25 @@
 use mathlib.Core.Path.{◌≡◌, refl}
 use mathlib.Core.List.{List}
 use Prim.Native.Nat.{ℕ}
-use Rattle.answers.specs.declared.Answer.TheVariants.{Faulty}
+use Rattle.std.specs.Prelude.{Err, None}
 use Rattle.answers.specs.declared.Fault.{Fault}
 use Rattle.image_layout.specs.declared.Layout.{Layout}
 use Rattle.image_layout.specs.Layout.{layout_of}
-use Rattle.image_judge.specs.declared.Surveyed.TheVariants.{Bad}
 use Rattle.image_judge.specs.Faults.{surveyed, tables_at}
 use Rattle.image.specs.Store.{call_fault, held}
 use Rattle.image.proofs.Surveys.{Called, call-refused}
 use Rattle.decision_steps.specs.Request.{Request, legal_request}
-use Rattle.explain_rules.specs.declared.Shown.TheVariants.{Nothing}
 use Rattle.explain_rules.specs.Explanation.{explained, unexplained, explanation, Rooms, HandsBack}
 
 module _ (w : List ℕ) (q : Request) where
-  pub explanation-refused : {f : Fault} → Bad f ≡ surveyed (call_fault w (legal_request q)) (layout_of w) → explanation (held w) q ≡ unexplained f
+  pub explanation-refused : {f : Fault} → Err f ≡ surveyed (call_fault w (legal_request q)) (layout_of w) → explanation (held w) q ≡ unexplained f
   explanation-refused e = call-refused (λ f. explanation (held w) q ≡ unexplained f) w (legal_request q) e (λ n. rw n) (λ t h l. rw (h, l))
 
   pub explanation-laid : {l : Layout} → Called w (legal_request q) l → explanation (held w) q ≡ explained (tables_at w l) q
   explanation-laid k = rw (k.holds, k.in_range)
 
 pub hands_none : (f : Fault) (rooms : Rooms)
-    → HandsBack (unexplained f) rooms rooms (record { answer = Faulty f; mapping = Nothing; access = Nothing; view = Nothing })
+    → HandsBack (unexplained f) rooms rooms (record { answer = Err f; mapping = None; access = None; view = None })
 hands_none f rooms = record {
   answer_is = refl;
   number_is = refl;

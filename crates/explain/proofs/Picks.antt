@@ -5,10 +5,10 @@ use mathlib.Core.Path.{◌≡◌, refl, sym, ap, ◌∙◌}
 use mathlib.Core.List.{List, [], ◌∷◌}
 use mathlib.Core.Option.{Option, none, some, map}
 use Prim.Native.Nat.{ℕ}
+use Rattle.std.specs.Prelude.{Ok, Err, None}
 use Rattle.answers.specs.declared.Cause.{Cause}
 use Rattle.answers.specs.declared.Cause.TheVariants.{NoSuchContext, NoGroupName, NoAccessEntry, NoSuchView, NotInView}
-use Rattle.answers.specs.declared.Decision.{Decision}
-use Rattle.answers.specs.declared.Decision.TheVariants.{Refused}
+use Rattle.answers.specs.Types.{Decision}
 use Rattle.numbers.specs.Lists.{find}
 use Rattle.rows.specs.declared.Table.TheVariants.{View}
 use Rattle.rows.specs.Rows.{ContextRow, MappingRow, AccessRow, ViewRow, view_of}
@@ -19,13 +19,11 @@ use Rattle.decision_steps.specs.Request.{Request, asked}
 use Rattle.decision_steps.specs.Decision.{bears_context, maps_principal, chosen_access, view_for, view_rows, chosen_view, if_any, viewed, or_denied, authority}
 use Rattle.decision_steps.specs.Decision.{or_refused, by_type, decision, by_authority, if_found, mapping_row, access_row}
 use Rattle.decision_steps.proofs.Parts.{decision-parts}
-use Rattle.decision_find.specs.declared.Found.{Found}
-use Rattle.decision_find.specs.declared.Found.TheVariants.{Nothing}
+use Rattle.decision_find.specs.Types.{Found}
 use Rattle.decision_find.specs.Found.{bytes_at, Chosen}
 use Rattle.decision_find.proofs.Chosen.{held_none, chosen, chosen-as}
 use Rattle.decision_parts.specs.declared.NamedView.{NamedView}
-use Rattle.decision_parts.specs.declared.Standing.{Standing}
-use Rattle.decision_parts.specs.declared.Standing.TheVariants.{Denied, Viewed}
+use Rattle.decision_parts.specs.Types.{Standing}
 use Rattle.decision_parts.specs.declared.Authorized.{Authorized}
 use Rattle.decision_parts.specs.Parts.{ViewIn, rows_of, saying, StandingIn, Authorizes}
 use Rattle.explain_rules.specs.Explanation.{view_picked}
@@ -64,10 +62,10 @@ view-picked t q =
 -- ---- by a standing
 
 module _ {w : List ℕ} (variable : List ℕ) {s : Standing} where
-  pub judged-denied : {cause : Cause} → s ≡ Denied cause → Judges w variable (saying w s) (record { view = Nothing; decision = Refused cause })
+  pub judged-denied : {cause : Cause} → s ≡ Err cause → Judges w variable (saying w s) (record { view = None; decision = Err cause })
   judged-denied e = rw e (record { view_is = chosen (held_none View w) refl; decision_is = refl })
 
-  module _ {v : NamedView} (e : s ≡ Viewed v) where
+  module _ {v : NamedView} (e : s ≡ Ok v) where
     pub view_in : StandingIn w s → ViewIn w v
     view_in h = rw e at h
 

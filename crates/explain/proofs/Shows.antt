@@ -8,6 +8,7 @@ use Prim.Native.Nat.{ℕ, ◌-◌, ◌≤◌}
 use native.Mathlib.Omega.{arith}
 use lib.ListN.{length, drop, length-drop}
 use lib.Seq.{length-take-le}
+use Rattle.std.specs.Prelude.{Some, None}
 use Rattle.numbers.specs.BigEndian.{Octets}
 use Rattle.numbers.specs.Laid.{laid}
 use Rattle.numbers.specs.Lists.{OnSome}
@@ -19,31 +20,30 @@ use Rattle.rows.proofs.Bounds.{longest-most, row-bounded}
 use Rattle.rows.proofs.Inverse.{bytes-again, legals-read}
 use Rattle.image_layout.proofs.Walks.{piece}
 use Rattle.decision_steps.specs.Bytes.{Whole}
-use Rattle.decision_find.specs.declared.Found.{Found}
-use Rattle.decision_find.specs.declared.Found.TheVariants.{Row, Nothing}
+use Rattle.decision_find.specs.Types.{Found}
 use Rattle.decision_find.specs.Found.{bytes_at, Lies, FoundIn, Chosen}
-use Rattle.explain_rules.specs.declared.Shown.{Shown}
+use Rattle.explain_rules.specs.Types.{Shown}
 use Rattle.explain_rules.specs.Explanation.{shown, lent, Shows}
 
 -- ---- what is copied
 
-module _ (w room : List ℕ) {f : Found} {a e : ℕ} (q : f ≡ Row a e) where
+module _ (w room : List ℕ) {f : Found} {a e : ℕ} (q : f ≡ Some (a, e)) where
   pub found-lies : FoundIn w f → Lies w a e
   found-lies h = rw q at h
 
   pub found-short : OnSome (λ v. length v ≤ length room) (bytes_at w f) → length (piece w a e) ≤ length room
   found-short h = rw q at h
 
-  pub shown-row : FoundIn w f → Shown.Row (e - a) ≡ shown (bytes_at w f)
+  pub shown-row : FoundIn w f → Some (e - a) ≡ shown (bytes_at w f)
   shown-row h =
       let l = found-lies h in
-      rw q (ap Shown.Row (sym (length-take-le (e - a) (drop a w) (omega (arith, l.starts, l.ends, length-drop a w)))))
+      rw q (ap Some (sym (length-take-le (e - a) (drop a w) (omega (arith, l.starts, l.ends, length-drop a w)))))
 
   pub lent_row : {after : List ℕ} → after ≡ laid 0 (piece w a e) room → after ≡ lent (bytes_at w f) room
   lent_row h = rw q h
 
-module _ (w room : List ℕ) {f : Found} (q : f ≡ Nothing) where
-  pub shown-none : Shown.Nothing ≡ shown (bytes_at w f)
+module _ (w room : List ℕ) {f : Found} (q : f ≡ None) where
+  pub shown-none : None ≡ shown (bytes_at w f)
   shown-none = rw q
 
   pub lent_none : room ≡ lent (bytes_at w f) room
@@ -61,8 +61,8 @@ pub row_fits : {R : Type 0} {t : Table} {of : List ℕ → R} {w : List ℕ} {f 
 row_fits {t = t} {w = w} {f = f} k h = fits t (bytes_at w f) h k.whole
 
 found-octets : (w : List ℕ) (f : Found) → Octets w → OnSome Octets (bytes_at w f)
-found-octets w (Row at end) o = octets-take (end - at) (drop at w) (octets-drop at w o)
-found-octets w Nothing o = tt
+found-octets w (Some (at, end)) o = octets-take (end - at) (drop at w) (octets-drop at w o)
+found-octets w None o = tt
 
 -- a row of table t, read by `of`
 module _ {R : Type 0} (t : Table) (of : List ℕ → R) (fields_of : R → List (List ℕ)) (reads : (v : List ℕ) → fields_of (of v) ≡ values (row_fields t) v) where

@@ -11,11 +11,9 @@ ghost use Rattle.decision_parts.specs.Parts.{saying, StandingIn};
 ghost use Rattle.explain_rules.specs.Explanation.{explained, shown, lent, rooms_of, HandsBack, Explains};
 ghost use Rattle.explain.specs.Judges.{Judges};
 
-use answers::{Answer, Decision};
-use decision_find::Found;
-use decision_parts::Standing;
-use explain_rules::{Explained, Shown};
-use image_judge::Surveyed;
+use answers::{Answer, Cause, Decision};
+use decision_parts::NamedView;
+use explain_rules::Explained;
 use image_layout::Layout;
 use rows::ROW_MAX;
 
@@ -24,22 +22,22 @@ use rows::ROW_MAX;
 // The decision, and the view row that it was made by.
 #[derive(Clone, Copy)]
 pub struct Judged {
-    pub view: Found,
+    pub view: Option<(usize, usize)>,
     pub decision: Decision,
 }
 
 // The decision on a variable, no more than 128 parts, by what steps 1 to 4 came to.
-fn judge(w: &[u8], standing: Standing, variable_name: &[u32]) -> Judged
+fn judge(w: &[u8], standing: Result<NamedView, Cause>, variable_name: &[u32]) -> Judged
     requires view { StandingIn w.now standing }
     requires parts { length variable_name.now ≤ most_parts }
     ensures { Judges w.now variable_name.now (saying w.now standing) result }
 {
     match standing {
-        Standing::Denied(cause) => Judged {
-            view: Found::Nothing,
-            decision: Decision::Refused(cause),
+        Err(cause) => Judged {
+            view: None,
+            decision: Err(cause),
         },
-        Standing::Viewed(v) => {
+        Ok(v) => {
             let view = decision::variable_row_in(w, v, variable_name);
             let decision = decision_parts::by_row(w, view);
             Judged { view, decision }
@@ -50,17 +48,17 @@ fn judge(w: &[u8], standing: Standing, variable_name: &[u32]) -> Judged
 // ---- the rows
 
 // Copies the row found, if one was, to the front of `room`.
-fn show(w: &[u8], row: Found, room: &mut [u8]) -> Shown
+fn show(w: &[u8], row: Option<(usize, usize)>, room: &mut [u8]) -> Option<usize>
     requires lies { FoundIn w.now row }
     requires room { OnSome (λ v. length v ≤ length room.old) (bytes_at w.now row) }
     ensures counts { result ≡ shown (bytes_at w.now row) }
     ensures lays { room.new ≡ lent (bytes_at w.now row) room.old }
 {
-    let Found::Row(at, end) = row else {
-        return Shown::Nothing;
+    let Some((at, end)) = row else {
+        return None;
     };
     splice::copy_in(room, 0, &w[at..end]);
-    Shown::Row(end - at)
+    Some(end - at)
 }
 
 // ---- the call
@@ -99,8 +97,7 @@ fn explain_rows(
         view_type,
         context_name,
     );
-    let standing = authorized.standing;
-    let judged = judge(w, standing, variable_name);
+    let judged = judge(w, authorized.standing, variable_name);
     let mapping_row = authorized.mapping;
     let access_row = authorized.access;
     let view_row = judged.view;
@@ -109,7 +106,7 @@ fn explain_rows(
     let access_shown = show(w, access_row, access);
     let view_shown = show(w, view_row, view);
     Explained {
-        answer: Answer::Decided(decision),
+        answer: Ok(decision),
         mapping: mapping_shown,
         access: access_shown,
         view: view_shown,
@@ -144,7 +141,7 @@ pub fn explain(
         variable_name.len(),
     );
     match image::survey_call(store, legal) {
-        Surveyed::Laid(l) => explain_rows(
+        Ok(l) => explain_rows(
             store,
             l,
             security_model,
@@ -157,11 +154,11 @@ pub fn explain(
             access,
             view,
         ),
-        Surveyed::Bad(f) => Explained {
-            answer: Answer::Faulty(f),
-            mapping: Shown::Nothing,
-            access: Shown::Nothing,
-            view: Shown::Nothing,
+        Err(f) => Explained {
+            answer: Err(f),
+            mapping: None,
+            access: None,
+            view: None,
         },
     }
 }

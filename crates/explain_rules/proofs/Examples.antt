@@ -3,10 +3,9 @@ use mathlib.Core.Path.{◌≡◌, refl}
 use mathlib.Core.List.{List, [], ◌∷◌}
 use mathlib.Core.Option.{Option, none, some}
 use Prim.Native.Nat.{ℕ}
-use Rattle.answers.specs.declared.Answer.TheVariants.{Decided}
+use Rattle.std.specs.Prelude.{Ok, Err, Some, None}
 use Rattle.answers.specs.declared.Cause.TheVariants.{NoSuchContext, NoGroupName, NoAccessEntry, NoSuchView, NotInView}
-use Rattle.answers.specs.declared.Decision.{Decision}
-use Rattle.answers.specs.declared.Decision.TheVariants.{Allowed, Refused}
+use Rattle.answers.specs.Types.{Decision}
 use Rattle.answers.specs.declared.Fault.TheVariants.{NotSound, OutOfRange}
 use Rattle.numbers.specs.Order.{same, before, begins}
 use Rattle.rows.specs.Rows.{MappingRow, AccessRow, ViewRow}
@@ -14,7 +13,6 @@ use Rattle.rows.specs.Tables.{Tables}
 use Rattle.decision_steps.specs.Request.{asked, read, write, notify, legal_request}
 use Rattle.decision_steps.specs.Decision.{bears_context, maps_principal, context_fits, candidate, chosen_access, view_for, in_view, mask_bit, agrees, matches}
 use Rattle.decision_steps.specs.Decision.{chosen_view, decision, mapping_row, access_row}
-use Rattle.explain_rules.specs.declared.Shown.TheVariants.{Row, Nothing}
 use Rattle.explain_rules.specs.Explanation.{Explanation, view_picked, explained, unexplained, explanation, shown, lent}
 
 -- names of one letter
@@ -72,40 +70,40 @@ unfolding explained view_picked mapping_row access_row decision legal_request be
 told name level view context variable = explanation (some tables) (asked 3 name level view context variable)
 
 abbrev answered : Decision → Option MappingRow → Option AccessRow → Option ViewRow → Explanation
-answered d mapping access view = record { answer = Decided d; mapping = mapping; access = access; view = view }
+answered d mapping access view = record { answer = Ok d; mapping = mapping; access = access; view = view }
 
-pub allowed : told ann 3 read [] (1 ∷ 1 ∷ []) ≡ answered Allowed (some (maps ann leads 1)) (some (accesses 3 2 base)) (some (family base (1 ∷ []) 1 1))
+pub allowed : told ann 3 read [] (1 ∷ 1 ∷ []) ≡ answered (Ok tt) (some (maps ann leads 1)) (some (accesses 3 2 base)) (some (family base (1 ∷ []) 1 1))
 unfolding told
 allowed = refl
 
 -- the excluded row decides; a longer one is out of service, and the view of the lower candidate would include the variable
 pub excluded : told ann 3 read [] (1 ∷ 2 ∷ 3 ∷ [])
-    ≡ answered (Refused NotInView) (some (maps ann leads 1)) (some (accesses 3 2 base)) (some (family base (1 ∷ 2 ∷ []) 2 1))
+    ≡ answered (Err NotInView) (some (maps ann leads 1)) (some (accesses 3 2 base)) (some (family base (1 ∷ 2 ∷ []) 2 1))
 unfolding told
 excluded = refl
 
-pub no_match : told ann 3 read [] (2 ∷ []) ≡ answered (Refused NotInView) (some (maps ann leads 1)) (some (accesses 3 2 base)) none
+pub no_match : told ann 3 read [] (2 ∷ []) ≡ answered (Err NotInView) (some (maps ann leads 1)) (some (accesses 3 2 base)) none
 unfolding told
 no_match = refl
 
 -- 4 for its two reasons: the row names no view, or one without active rows
-pub no_name : told ann 3 write [] (1 ∷ []) ≡ answered (Refused NoSuchView) (some (maps ann leads 1)) (some (accesses 3 2 base)) none
+pub no_name : told ann 3 write [] (1 ∷ []) ≡ answered (Err NoSuchView) (some (maps ann leads 1)) (some (accesses 3 2 base)) none
 unfolding told
 no_name = refl
 
-pub no_rows : told ann 3 notify [] (1 ∷ []) ≡ answered (Refused NoSuchView) (some (maps ann leads 1)) (some (accesses 3 2 base)) none
+pub no_rows : told ann 3 notify [] (1 ∷ []) ≡ answered (Err NoSuchView) (some (maps ann leads 1)) (some (accesses 3 2 base)) none
 unfolding told
 no_rows = refl
 
-pub no_candidate : told cal 3 read [] (1 ∷ []) ≡ answered (Refused NoAccessEntry) (some (maps cal cal 1)) none none
+pub no_candidate : told cal 3 read [] (1 ∷ []) ≡ answered (Err NoAccessEntry) (some (maps cal cal 1)) none none
 unfolding told
 no_candidate = refl
 
-pub out-of-service : told bob 3 read [] (1 ∷ []) ≡ answered (Refused NoGroupName) none none none
+pub out-of-service : told bob 3 read [] (1 ∷ []) ≡ answered (Err NoGroupName) none none none
 unfolding told
 out-of-service = refl
 
-pub no_context : told ann 3 read cal (1 ∷ []) ≡ answered (Refused NoSuchContext) none none none
+pub no_context : told ann 3 read cal (1 ∷ []) ≡ answered (Err NoSuchContext) none none none
 unfolding told
 no_context = refl
 
@@ -120,11 +118,11 @@ not_sound = refl
 pub row-lent : lent (some (1 ∷ 2 ∷ [])) (7 ∷ 8 ∷ 9 ∷ []) ≡ 1 ∷ 2 ∷ 9 ∷ []
 row-lent = refl
 
-pub row-counted : shown (some (1 ∷ 2 ∷ [])) ≡ Row 2
+pub row-counted : shown (some (1 ∷ 2 ∷ [])) ≡ Some 2
 row-counted = refl
 
 pub none_lent : lent none (7 ∷ 8 ∷ 9 ∷ []) ≡ 7 ∷ 8 ∷ 9 ∷ []
 none_lent = refl
 
-pub none-counted : shown none ≡ Nothing
+pub none-counted : shown none ≡ None
 none-counted = refl

@@ -11,7 +11,7 @@ use Prim.Native.Nat.{ℕ}
 use lib.Dec.{eqb}
 use lib.ListN.{length}
 use borrow.Author.Tests.{eqb-true, eqb-false}
-use Rattle.answers.specs.declared.Answer.TheVariants.{Decided}
+use Rattle.std.specs.Prelude.{Ok}
 use Rattle.answers.specs.declared.Cause.TheVariants.{NoSuchContext, NoGroupName, NoAccessEntry, NoSuchView, NotInView}
 use Rattle.numbers.specs.Lists.{keep, every, first, find, top, is_none, Among, NoneOf}
 use Rattle.numbers.specs.Order.{same, before}
@@ -225,7 +225,7 @@ module _ (t : Tables) (q : Request) where
   -- ---- the cause, step by step
 
   because-row : (m : MappingRow) (a : AccessRow) {s : ViewRow} {ss : List ViewRow} → view_rows (name_for a) t.vacm_view_tree_family_table ≡ s ∷ ss
-      → (o : Option ViewRow) → view_of a ≡ o → Because t q (Decided (or_refused NotInView o by_type)) (some m) (some a) o
+      → (o : Option ViewRow) → view_of a ≡ o → Because t q (Ok (or_refused NotInView o by_type)) (some m) (some a) o
   because-row m a k none e =
       no_match (λ r i n.
       let rs = t.vacm_view_tree_family_table in
@@ -236,28 +236,28 @@ module _ (t : Tables) (q : Request) where
       (λ i. rw i (is_excluded (eqb-false r.family_type included i)))
 
   because-view : (m : MappingRow) (a : AccessRow) (rs : List ViewRow) → view_rows (name_for a) t.vacm_view_tree_family_table ≡ rs
-      → Because t q (Decided (or_refused NoSuchView (if_any rs) (step5 q.variable_name))) (some m) (some a) (chosen_view q.variable_name rs)
+      → Because t q (Ok (or_refused NoSuchView (if_any rs) (step5 q.variable_name))) (some m) (some a) (chosen_view q.variable_name rs)
   unfolding chosen_view
   because-view m a [] e = no_view (view-missing t (name_for a) e)
   because-view m a (r ∷ rs) e = because-row m a e (chosen_view q.variable_name (r ∷ rs)) (ap (chosen_view q.variable_name) e)
 
   because-access : (m : MappingRow) (o : Option AccessRow) → access_for m ≡ o
-      → Because t q (Decided (or_refused NoAccessEntry o (λ a. step4 q.variable_name (name_for a) t.vacm_view_tree_family_table))) (some m) o (if_found o view_of)
+      → Because t q (Ok (or_refused NoAccessEntry o (λ a. step4 q.variable_name (name_for a) t.vacm_view_tree_family_table))) (some m) o (if_found o view_of)
   because-access m none e = no_candidate (access-none _ _ _ _ _ e)
   because-access m (some a) e = because-view m a _ refl
 
   because-mapping : (o : Option MappingRow) → find maps mappings ≡ o
-      → Because t q (Decided (or_refused NoGroupName o (λ m. step3 m.group_name q t))) o (if_found o access_for) (if_found (if_found o access_for) view_of)
+      → Because t q (Ok (or_refused NoGroupName o (λ m. step3 m.group_name q t))) o (if_found o access_for) (if_found (if_found o access_for) view_of)
   because-mapping none e = no_mapping (find_none maps mappings e)
   because-mapping (some m) e = because-access m (access_for m) refl
 
   because-context : (o : Option ContextRow) → find (bears_context q.context_name) t.vacm_context_table ≡ o
       → let mapping = if_found o (λ c. find maps mappings) in
-      Because t q (Decided (or_refused NoSuchContext o (λ c. step2 q t))) mapping (if_found mapping access_for) (if_found (if_found mapping access_for) view_of)
+      Because t q (Ok (or_refused NoSuchContext o (λ c. step2 q t))) mapping (if_found mapping access_for) (if_found (if_found mapping access_for) view_of)
   because-context none e = no_context (find_none (bears_context q.context_name) t.vacm_context_table e)
   because-context (some c) e = because-mapping (find maps mappings) refl
 
-  because : Because t q (Decided (decision t q)) (mapping_picked t q) (access_picked t q) (view_picked t q)
+  because : Because t q (Ok (decision t q)) (mapping_picked t q) (access_picked t q) (view_picked t q)
   unfolding decision mapping_row access_row view_picked
   because = because-context _ refl
 

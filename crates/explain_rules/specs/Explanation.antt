@@ -2,8 +2,8 @@
 -- got." Over the rows held, and what the call promises. What is true of it is in specs/Truthful.antt. Assumes nothing.
 use Rattle.std.specs.Prelude.{◌≡◌, true, cond, List, ℕ, length}
 use Rattle.std.proofs.Math.Option.{Option, none, some, map}
-use Rattle.answers.specs.declared.Answer.{Answer}
-use Rattle.answers.specs.declared.Answer.TheVariants.{Decided, Faulty}
+use Rattle.std.specs.Prelude.{Ok, Err, Some, None}
+use Rattle.answers.specs.Types.{Answer}
 use Rattle.answers.specs.declared.Fault.{Fault}
 use Rattle.answers.specs.declared.Fault.TheVariants.{NotSound, OutOfRange}
 use Rattle.answers.specs.Numbers.{answer_number}
@@ -17,8 +17,7 @@ use Rattle.rows.specs.Tables.{Tables}
 use Rattle.image.specs.Store.{held}
 use Rattle.decision_steps.specs.Request.{Request, legal_request}
 use Rattle.decision_steps.specs.Decision.{view_for, view_rows, chosen_view, decision, if_found, mapping_row, access_row}
-use Rattle.explain_rules.specs.declared.Shown.{Shown}
-use Rattle.explain_rules.specs.declared.Shown.TheVariants.{Row, Nothing}
+use Rattle.explain_rules.specs.Types.{Shown}
 use Rattle.explain_rules.specs.declared.Explained.{Explained}
 
 -- ---- the rows behind an answer
@@ -40,11 +39,11 @@ unfoldable pub view_picked : Tables → Request → Option ViewRow
 view_picked t q = if_found (access_picked t q) (λ a. chosen_view q.variable_name (view_rows (view_for q.view_type a) t.vacm_view_tree_family_table))
 
 unfoldable pub explained : Tables → Request → Explanation
-explained t q = record { answer = Decided (decision t q); mapping = mapping_picked t q; access = access_picked t q; view = view_picked t q }
+explained t q = record { answer = Ok (decision t q); mapping = mapping_picked t q; access = access_picked t q; view = view_picked t q }
 
 -- 6 and 7 show no rows
 abbrev pub unexplained : Fault → Explanation
-unexplained f = record { answer = Faulty f; mapping = none; access = none; view = none }
+unexplained f = record { answer = Err f; mapping = none; access = none; view = none }
 
 -- 6 before 7 before the steps
 abbrev pub explanation : Option Tables → Request → Explanation
@@ -55,8 +54,8 @@ explanation (some t) q = cond (legal_request q) (explained t q) (unexplained Out
 
 -- of a row's bytes, if one is shown: their number, and the lent room with them at its front; none leaves it as found
 abbrev pub shown : Option (List ℕ) → Shown
-shown none = Nothing
-shown (some bytes) = Row (length bytes)
+shown none = None
+shown (some bytes) = Some (length bytes)
 
 abbrev pub lent : Option (List ℕ) → List ℕ → List ℕ
 lent none found = found

@@ -5,11 +5,13 @@ use mathlib.Core.Path.{◌≡◌, refl, sym, ap, subst, ◌∙◌}
 use mathlib.Core.Bool.{Bool, true, false, cond, ◌&&◌}
 use mathlib.Core.List.{List}
 use mathlib.Core.Option.{Option, none, some}
-use Prim.Native.Nat.{ℕ, ◌+◌, ◌≤◌, ◌<◌}
+use Prim.Native.Nat.{ℕ, ◌+◌, ◌*◌, ◌≤◌, ◌<◌}
 use native.Mathlib.Omega.{arith}
 use lib.Dec.{eqb, leb, ltb}
-use lib.ListN.{length}
+use lib.ListN.{length, drop}
 use borrow.Author.Tests.{lt-ltb, le-ltb, lt-leb, leb-true, eq-eqb, ne_eqb, eqb-true}
+use Rattle.std.specs.Prelude.{Ok, Err, MatchResult, IsErrAnd}
+use Rattle.std.proofs.lemmas.Result.{err_from_is_err_and}
 use Rattle.answers.specs.declared.Fault.{Fault}
 use Rattle.answers.specs.declared.Fault.TheVariants.{NotSound, OutOfRange, Torn, TableFull}
 use Rattle.numbers.specs.Lists.{is_none}
@@ -19,26 +21,29 @@ use Rattle.rows.specs.Fields.{or_else}
 use Rattle.rows.specs.Tables.{Tables}
 use Rattle.rows.proofs.Sound.{cond-none}
 use Rattle.image_layout.specs.declared.Layout.{Layout}
-use Rattle.image_layout.specs.Layout.{count, image_length, image_end, within_limits, header, laid_out, layout_of}
+use Rattle.numbers.specs.BigEndian.{Octets}
+use Rattle.numbers.proofs.BigEndian.{octets-drop}
+use Rattle.image_layout.specs.Layout.{pairs, total, count, image_length, image_end, within_limits, header, laid_out, layout_of, most_rows, most_pair}
+use Rattle.image_layout.proofs.Walks.{total-most}
+use Rattle.image_layout.proofs.Limits.{few}
 use Rattle.image_layout.proofs.Layouts.{laid-within}
-use Rattle.image_judge.specs.declared.Surveyed.{Surveyed}
-use Rattle.image_judge.specs.declared.Surveyed.TheVariants.{Laid, Bad}
+use Rattle.image_judge.specs.Types.{Surveyed}
 use Rattle.image_judge.specs.Faults.{rows_fault, SoundLayout, surveyed, tables_at, tables_in}
 use Rattle.image_judge.proofs.Tables.{sound-tables}
 use Rattle.image.specs.Image.{sized_fault, front_fault, image_fault, fits}
-use Rattle.image.specs.Store.{room, sound_rows, is_sound, store_fault, call_fault, held, soundly}
+use Rattle.image.specs.Store.{room, sound_rows, is_sound, store_fault, call_fault, held}
 
 -- ---- answers
 
-pub surveyed-bad : {o : Option Fault} {f : Fault} (l : Layout) → o ≡ some f → Bad f ≡ surveyed o l
+pub surveyed-bad : {o : Option Fault} {f : Fault} (l : Layout) → o ≡ some f → Err f ≡ surveyed o l
 surveyed-bad l e = sym (rw e)
 
 -- read back: where the tables lie, or what is wrong
-pub laid_none : (o : Option Fault) (d : Layout) {l : Layout} → Laid l ≡ surveyed o d → (o ≡ none) × (l ≡ d)
+pub laid_none : (o : Option Fault) (d : Layout) {l : Layout} → Ok l ≡ surveyed o d → (o ≡ none) × (l ≡ d)
 laid_none none d e = (refl, cc)
 laid_none (some f) d e = (cc, cc)
 
-pub bad-some : (o : Option Fault) (d : Layout) {f : Fault} → Bad f ≡ surveyed o d → o ≡ some f
+pub bad-some : (o : Option Fault) (d : Layout) {f : Fault} → Err f ≡ surveyed o d → o ≡ some f
 bad-some none d e = cc
 bad-some (some g) d e = cc
 
@@ -59,6 +64,14 @@ pub record Counted (w : List ℕ) (c m a v : ℕ) : Type 0 where
   pub mappings_are : m ≡ count 1 w
   pub accesses_are : a ≡ count 2 w
   pub views_are : v ≡ count 3 w
+
+pub counted : (w : List ℕ) {c m a v : ℕ} → c ≡ count 0 w → m ≡ count 1 w → a ≡ count 2 w → v ≡ count 3 w → Counted w c m a v
+counted w p q r s = record { contexts_are = p; mappings_are = q; accesses_are = r; views_are = s }
+
+-- within their limits they are so few rows that the lengths add up to no great number
+pub few_bytes : {w : List ℕ} {c m a v : ℕ} → Counted w c m a v → Octets w → within_limits c m a v ≡ true
+    → (c + m + a + v ≤ most_rows) × (total (pairs (c + m + a + v) (drop header w)) ≤ most_pair * (c + m + a + v))
+few_bytes {w} {c} {m} {a} {v} k b l = (few c m a v l, total-most (c + m + a + v) (drop header w) (octets-drop header w b))
 
 module _ (fit : ℕ → ℕ → Bool) where
   pub front-tiny : (w : List ℕ) → length w < header → front_fault fit w ≡ some Torn
@@ -89,6 +102,16 @@ module _ (fit : ℕ → ℕ → Bool) where
     front-surveyed y e q = rw (front-rows y e, layout_is) q
 
 -- ---- a store
+
+-- what is surveyed at the front of a store: 6 whatever is wrong there
+abbrev soundly : Surveyed → Surveyed
+soundly (Ok l) = Ok l
+soundly (Err f) = Err NotSound
+
+pub mapped : (r s : Surveyed) (P : Fault → Fault → Type 0) → MatchResult r (λ l. s ≡ Ok l) (λ f. IsErrAnd s (P f)) → ((f g : Fault) → P f g → g ≡ NotSound)
+    → s ≡ soundly r
+mapped (Ok l) s P p q = p
+mapped (Err f) s P p q = let e = err_from_is_err_and s p in e.1 ∙ ap Err (q f e.0 e.2)
 
 pub store_other : (w : List ℕ) → (length w ≡ room → ⊥) → store_fault w ≡ some NotSound
 unfolding store_fault is_sound
@@ -157,7 +180,7 @@ sound-layout w h = let t = store-tests w h in within-layout w t.2 t.3
 
 -- ---- what a survey answered
 
-pub image-laid : (w : List ℕ) {l : Layout} → Laid l ≡ surveyed (image_fault w) (layout_of w) → SoundLayout w l
+pub image-laid : (w : List ℕ) {l : Layout} → Ok l ≡ surveyed (image_fault w) (layout_of w) → SoundLayout w l
 image-laid w e = let p = laid_none _ _ e in rw p.1 (image-layout w p.0)
 
 sound_none : (b : Bool) → cond b none (some NotSound) ≡ none → b ≡ true
@@ -168,38 +191,47 @@ unsound-some : (b : Bool) (f : Fault) → cond b none (some NotSound) ≡ some f
 unsound-some true f e = cc
 unsound-some false f e = refl
 
-pub store_laid : (w : List ℕ) {l : Layout} → Laid l ≡ surveyed (store_fault w) (layout_of w) → (is_sound w ≡ true) × (l ≡ layout_of w)
+pub store_laid : (w : List ℕ) {l : Layout} → Ok l ≡ surveyed (store_fault w) (layout_of w) → (is_sound w ≡ true) × (l ≡ layout_of w)
 unfolding store_fault
 store_laid w e = let p = laid_none _ _ e in (sound_none (is_sound w) p.0, p.1)
 
-pub store-bad : (w : List ℕ) {f : Fault} → Bad f ≡ surveyed (store_fault w) (layout_of w) → is_sound w ≡ false
+pub store-bad : (w : List ℕ) {f : Fault} → Err f ≡ surveyed (store_fault w) (layout_of w) → is_sound w ≡ false
 unfolding store_fault
 store-bad w {f} e = unsound-some (is_sound w) f (bad-some _ _ e)
 
-pub store-sound-layout : (w : List ℕ) {l : Layout} → Laid l ≡ surveyed (store_fault w) (layout_of w) → SoundLayout w l
+-- nothing else is told of it
+only-unsound : (b : Bool) {f : Fault} → cond b none (some NotSound) ≡ some f → f ≡ NotSound
+only-unsound true e = cc
+only-unsound false e = cc
+
+pub store-only : (w : List ℕ) {f : Fault} → Err f ≡ surveyed (store_fault w) (layout_of w) → f ≡ NotSound
+unfolding store_fault
+store-only w e = only-unsound (is_sound w) (bad-some _ _ e)
+
+pub store-sound-layout : (w : List ℕ) {l : Layout} → Ok l ≡ surveyed (store_fault w) (layout_of w) → SoundLayout w l
 store-sound-layout w e = let p = store_laid w e in rw p.1 (sound-layout w p.0)
 
 -- the tables held, and none where the store is not sound
-pub store-held : (w : List ℕ) {l : Layout} → Laid l ≡ surveyed (store_fault w) (layout_of w) → held w ≡ some (tables_at w l)
+pub store-held : (w : List ℕ) {l : Layout} → Ok l ≡ surveyed (store_fault w) (layout_of w) → held w ≡ some (tables_at w l)
 unfolding held
 store-held w e = rw ((store_laid w e).0, (store_laid w e).1)
 
-pub store-unheld : (w : List ℕ) {f : Fault} → Bad f ≡ surveyed (store_fault w) (layout_of w) → held w ≡ none
+pub store-unheld : (w : List ℕ) {f : Fault} → Err f ≡ surveyed (store_fault w) (layout_of w) → held w ≡ none
 unfolding held
 store-unheld w e = rw (store-bad w e)
 
 -- ---- for a call with fields to judge
 
-module _ (w : List ℕ) {l : Layout} (e : Laid l ≡ surveyed (store_fault w) (layout_of w)) where
+module _ (w : List ℕ) {l : Layout} (e : Ok l ≡ surveyed (store_fault w) (layout_of w)) where
   pub call-legal : {legal : Bool} → legal ≡ true → surveyed (store_fault w) (layout_of w) ≡ surveyed (call_fault w legal) (layout_of w)
   unfolding call_fault
   call-legal q = rw ((laid_none (store_fault w) (layout_of w) e).0, q)
 
-  pub call-illegal : {legal : Bool} → legal ≡ false → Bad OutOfRange ≡ surveyed (call_fault w legal) (layout_of w)
+  pub call-illegal : {legal : Bool} → legal ≡ false → Err OutOfRange ≡ surveyed (call_fault w legal) (layout_of w)
   unfolding call_fault
   call-illegal q = sym (rw ((laid_none (store_fault w) (layout_of w) e).0, q))
 
-pub call-unsound : (w : List ℕ) (legal : Bool) {f : Fault} → Bad f ≡ surveyed (store_fault w) (layout_of w) → Bad f ≡ surveyed (call_fault w legal) (layout_of w)
+pub call-unsound : (w : List ℕ) (legal : Bool) {f : Fault} → Err f ≡ surveyed (store_fault w) (layout_of w) → Err f ≡ surveyed (call_fault w legal) (layout_of w)
 unfolding call_fault
 call-unsound w legal e = sym (rw (bad-some (store_fault w) (layout_of w) e))
 
@@ -214,12 +246,12 @@ pub record Called (w : List ℕ) (legal : Bool) (l : Layout) : Type 0 where
   pub sound : SoundLayout w l
   pub holds : held w ≡ some (tables_at w l)
 
-pub call-laid : (w : List ℕ) (legal : Bool) {l : Layout} → Laid l ≡ surveyed (call_fault w legal) (layout_of w) → Called w legal l
+pub call-laid : (w : List ℕ) (legal : Bool) {l : Layout} → Ok l ≡ surveyed (call_fault w legal) (layout_of w) → Called w legal l
 unfolding call_fault
 call-laid w legal {l} e =
     let p = laid_none (call_fault w legal) (layout_of w) e in
     let q = or-none (store_fault w) legal p.0 in
-    let s : Laid l ≡ surveyed (store_fault w) (layout_of w) = rw q.0 (ap Laid p.1) in
+    let s : Ok l ≡ surveyed (store_fault w) (layout_of w) = rw q.0 (ap Ok p.1) in
     record { in_range = q.1; sound = store-sound-layout w s; holds = store-held w s }
 
 refused : (P : Fault → Type 0) (sound legal : Bool) (t : Tables) {f : Fault}
@@ -229,7 +261,7 @@ refused P true true t e n o = clash refl (ap is_none e)
 refused P true false t {f} e n o = let z : OutOfRange ≡ f = cc in subst P z (o t refl refl)
 refused P false legal t {f} e n o = let z : NotSound ≡ f = cc in subst P z (n refl)
 
-pub call-refused : (P : Fault → Type 0) (w : List ℕ) (legal : Bool) {f : Fault} → Bad f ≡ surveyed (call_fault w legal) (layout_of w)
+pub call-refused : (P : Fault → Type 0) (w : List ℕ) (legal : Bool) {f : Fault} → Err f ≡ surveyed (call_fault w legal) (layout_of w)
     → (held w ≡ none → P NotSound) → ((t : Tables) → held w ≡ some t → legal ≡ false → P OutOfRange) → P f
 unfolding call_fault store_fault held
 call-refused P w legal e n o = refused P (is_sound w) legal (tables_in w) (bad-some (call_fault w legal) (layout_of w) e) n o

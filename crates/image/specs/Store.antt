@@ -7,8 +7,6 @@ use Rattle.answers.specs.declared.Fault.TheVariants.{NotSound, OutOfRange}
 use Rattle.numbers.specs.Lists.{is_none}
 use Rattle.rows.specs.Fields.{or_else}
 use Rattle.rows.specs.Tables.{Tables}
-use Rattle.image_judge.specs.declared.Surveyed.{Surveyed}
-use Rattle.image_judge.specs.declared.Surveyed.TheVariants.{Laid, Bad}
 use Rattle.image_layout.specs.Layout.{header, laid_out, count, image_length, within_limits}
 use Rattle.image_judge.specs.Faults.{rows_fault, tables_in}
 
@@ -35,8 +33,3 @@ call_fault w legal = or_else (store_fault w) (cond legal none (some OutOfRange))
 -- the tables that a sound store holds
 unfoldable pub held : List ℕ → Option Tables
 held w = cond (is_sound w) (some (tables_in w)) none
-
--- what is surveyed at the front of a store: 6 whatever is wrong there
-abbrev pub soundly : Surveyed → Surveyed
-soundly (Laid l) = Laid l
-soundly (Bad f) = Bad NotSound

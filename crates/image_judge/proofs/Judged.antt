@@ -9,6 +9,8 @@ use Prim.Native.Nat.{ℕ, ◌+◌, ◌≤◌, ◌<◌}
 use native.Mathlib.Omega.{arith}
 use lib.ListN.{take, drop, length-take}
 use lib.Seq.{take-take}
+use Rattle.std.specs.Prelude.{Ok}
+use Rattle.std.specs.Prelude.{Err}
 use Rattle.answers.specs.declared.Fault.{Fault}
 use Rattle.answers.specs.declared.Fault.TheVariants.{NotAscending}
 use Rattle.numbers.specs.Order.{before}
@@ -16,8 +18,7 @@ use Rattle.rows.specs.declared.Table.{Table}
 use Rattle.rows.specs.Fields.{faults, span}
 use Rattle.rows.specs.Rows.{key_fields, row_fields, index_of}
 use Rattle.rows.specs.Steps.{reached, row_step}
-use Rattle.rows.specs.declared.Step.{Step}
-use Rattle.rows.specs.declared.Step.TheVariants.{At}
+use Rattle.rows.specs.Types.{Step}
 use Rattle.numbers.specs.BigEndian.{Octets}
 use Rattle.numbers.proofs.BigEndian.{octets-drop, octets-take}
 use Rattle.image_layout.specs.declared.Extent.{Extent}
@@ -44,6 +45,10 @@ pub record Turn (t : Table) (w : List ℕ) (x : Extent) (i g o a e l : ℕ) (s :
   pub length_is : l ≡ pair (drop g w)
   pub answer_is : s ≡ row_step t (piece w o (o + l))
 
+pub turn : {t : Table} {w : List ℕ} {x : Extent} {i g o a e l : ℕ} {s : Step} → Octets w → Walk w x i g o → Judged t w x i o a e → i < x.count
+    → l ≡ pair (drop g w) → s ≡ row_step t (piece w o (o + l)) → Turn t w x i g o a e l s
+turn b k j m p q = record { bytes = b; walk = k; judged = j; more = m; length_is = p; answer_is = q }
+
 module _ {t : Table} {w : List ℕ} {x : Extent} {i g o a e l : ℕ} {s : Step} (n : Turn t w x i g o a e l s) where
   abbrev row : List ℕ
   row = take l (drop o w)
@@ -57,11 +62,11 @@ module _ {t : Table} {w : List ℕ} {x : Extent} {i g o a e l : ℕ} {s : Step} 
   goes : table_fault t [] (rows_in w x) ≡ table_fault t prev (row ∷ rest w x (i + 1) (o + l))
   goes = n.judged.left ∙ ap (table_fault t prev) (rest-next n.walk l n.more n.length_is)
 
-  pub judged-bad : {f : Fault} → s ≡ Step.Bad f → s ≡ reached (table_fault t [] (rows_in w x)) (end_of w x)
+  pub judged-bad : {f : Fault} → s ≡ Err f → s ≡ reached (table_fault t [] (rows_in w x)) (end_of w x)
   judged-bad {f} p = p ∙ sym (rw (goes ∙ fault-row t prev row _ f (reached-bad _ _ f (answer ∙ p))))
 
   -- it has no fault, and its key is z bytes long
-  module _ {z : ℕ} (p : s ≡ At z) where
+  module _ {z : ℕ} (p : s ≡ Ok z) where
     passed : (faults (row_fields t) row ≡ none) × (span (key_fields t) row ≡ z)
     passed = reached-at _ _ z (answer ∙ p)
 
@@ -77,7 +82,7 @@ module _ {t : Table} {w : List ℕ} {x : Extent} {i g o a e l : ℕ} {s : Step} 
     compared : before (piece w a e) (piece w o (o + z)) ≡ before prev (index_of t row)
     compared = rw key (n.judged.stands row row-bytes passed.0)
 
-    pub judged-low : before (piece w a e) (piece w o (o + z)) ≡ false → Step.Bad NotAscending ≡ reached (table_fault t [] (rows_in w x)) (end_of w x)
+    pub judged-low : before (piece w a e) (piece w o (o + z)) ≡ false → Err NotAscending ≡ reached (table_fault t [] (rows_in w x)) (end_of w x)
     judged-low q = sym (rw (goes ∙ fault-order t prev row _ passed.0 (sym compared ∙ q)))
 
     -- the first row stands behind none
@@ -93,6 +98,6 @@ module _ {t : Table} {w : List ℕ} {x : Extent} {i g o a e l : ℕ} {s : Step} 
 
 -- no row is left
 pub judged-end : {t : Table} {w : List ℕ} {x : Extent} {i g o a e : ℕ} → Walk w x i g o → Judged t w x i o a e → x.count ≤ i
-    → At o ≡ reached (table_fault t [] (rows_in w x)) (end_of w x)
+    → Ok o ≡ reached (table_fault t [] (rows_in w x)) (end_of w x)
 judged-end {t} k j h =
     sym (rw (j.left ∙ ap (table_fault t j.prev) (rest_end k h) ∙ fault-nil t j.prev, walk_end k h))

@@ -6,14 +6,14 @@ use mathlib.Core.Bool.{true, false, cond}
 use mathlib.Core.List.{List, [], ◌∷◌}
 use mathlib.Core.Option.{Option, none, some}
 use Prim.Native.Nat.{ℕ}
+use Rattle.std.specs.Prelude.{Ok}
+use Rattle.std.specs.Prelude.{Err}
 use Rattle.answers.specs.declared.Fault.{Fault}
 use Rattle.answers.specs.declared.Fault.TheVariants.{NotAscending}
 use Rattle.numbers.specs.Lists.{every, is_none}
 use Rattle.numbers.specs.Order.{before}
 use Rattle.numbers.proofs.Bools.{and_both}
 use Rattle.numbers.proofs.Greatest.{Under, Ascends, under-trans}
-use Rattle.rows.specs.declared.Step.{Step}
-use Rattle.rows.specs.declared.Step.TheVariants.{At}
 use Rattle.rows.specs.declared.Table.{Table}
 use Rattle.rows.specs.Fields.{faults, or_else}
 use Rattle.rows.specs.Rows.{row_fields, index_of}
@@ -23,11 +23,11 @@ use Rattle.image_judge.specs.Faults.{table_fault}
 
 -- ---- answers read back
 
-pub reached-at : (o : Option Fault) (n a : ℕ) → reached o n ≡ At a → (o ≡ none) × (n ≡ a)
+pub reached-at : (o : Option Fault) (n a : ℕ) → reached o n ≡ Ok a → (o ≡ none) × (n ≡ a)
 reached-at none n a e = (refl, cc)
 reached-at (some f) n a e = (cc, cc)
 
-pub reached-bad : (o : Option Fault) (n : ℕ) (f : Fault) → reached o n ≡ Step.Bad f → o ≡ some f
+pub reached-bad : (o : Option Fault) (n : ℕ) (f : Fault) → reached o n ≡ Err f → o ≡ some f
 reached-bad none n f e = cc
 reached-bad (some g) n f e = cc
 

@@ -3,7 +3,7 @@
 use mathlib.Core.Path.{◌≡◌, sym, ap, ◌∙◌}
 use mathlib.Core.List.{List, [], ◌∷◌}
 use mathlib.Core.Option.{none}
-use Prim.Native.Nat.{ℕ, ◌+◌, ◌≤◌, ◌<◌}
+use Prim.Native.Nat.{ℕ, ◌+◌, ◌*◌, ◌≤◌, ◌<◌}
 use lib.ListN.{length, drop}
 use Rattle.rows.specs.declared.Table.{Table}
 use Rattle.rows.specs.Fields.{faults}
@@ -11,7 +11,7 @@ use Rattle.rows.specs.Rows.{row_fields, index_of}
 use Rattle.image_layout.specs.declared.Extent.{Extent}
 use Rattle.image_layout.specs.Layout.{pair, Inside}
 use Rattle.image_judge.specs.Faults.{table_fault, SoundTable}
-use Rattle.image_layout.proofs.Walks.{piece, rest, Walk, walk_start, walk-length, rest-slice, walk-next, walk-row}
+use Rattle.image_layout.proofs.Walks.{piece, rest, Walk, walk_start, walk-length, rest-slice, walk-next, walk-row, in_place}
 use Rattle.image_judge.proofs.Sound.{whole-first, sound-rest}
 
 pub record SoundWalk (t : Table) (w : List ℕ) (x : Extent) (i g o : ℕ) : Type 0 where
@@ -22,6 +22,10 @@ pub record SoundWalk (t : Table) (w : List ℕ) (x : Extent) (i g o : ℕ) : Typ
 
 pub sound-start : {t : Table} {w : List ℕ} {x : Extent} → SoundTable t w x → SoundWalk t w x 0 x.lengths x.rows
 sound-start {t} {w} {x} s = record { walk = walk_start w x; inside = s.inside; prev = []; left = s.rows_sound }
+
+-- by its row alone
+pub sound_in_place : {t : Table} {w : List ℕ} {x : Extent} {i g o : ℕ} → SoundWalk t w x i g o → SoundWalk t w x i (x.lengths + 2 * i) o
+sound_in_place k = record { walk = in_place k.walk; inside = k.inside; prev = k.prev; left = k.left }
 
 module _ {t : Table} {w : List ℕ} {x : Extent} {i g o : ℕ} (k : SoundWalk t w x i g o) (h : i < x.count) where
   -- the length at g lies within w

@@ -2,11 +2,10 @@
 -- Assumes nothing.
 use Rattle.std.specs.Prelude.{◌≡◌, cond, List, [], ◌∷◌, map, ℕ}
 use Rattle.std.proofs.Math.Option.{Option, none, some}
+use Rattle.std.specs.Prelude.{Ok, Err}
 use Rattle.answers.specs.declared.Fault.{Fault}
-use Rattle.answers.specs.declared.Fault.TheVariants.{Torn, NotAscending}
+use Rattle.answers.specs.declared.Fault.TheVariants.{NotAscending}
 use Rattle.numbers.specs.Order.{before}
-use Rattle.rows.specs.declared.Step.{Step}
-use Rattle.rows.specs.declared.Step.TheVariants.{At}
 use Rattle.rows.specs.declared.Table.{Table}
 use Rattle.rows.specs.declared.Table.TheVariants.{Context, Mapping, Access, View}
 use Rattle.rows.specs.Fields.{faults, or_else}
@@ -15,8 +14,7 @@ use Rattle.rows.specs.Tables.{Tables}
 use Rattle.image_layout.specs.declared.Extent.{Extent}
 use Rattle.image_layout.specs.declared.Layout.{Layout}
 use Rattle.image_layout.specs.Layout.{Inside, rows_in, layout_of}
-use Rattle.image_judge.specs.declared.Surveyed.{Surveyed}
-use Rattle.image_judge.specs.declared.Surveyed.TheVariants.{Laid, Bad}
+use Rattle.image_judge.specs.Types.{Surveyed}
 
 -- rows of one table, one after the other: each whole and legal, its index above that of the row before it
 unfoldable pub table_fault : Table → List ℕ → List (List ℕ) → Option Fault
@@ -57,10 +55,5 @@ pub record SoundLayout (w : List ℕ) (l : Layout) : Type 0 where
 
 -- where the tables lie, if nothing is wrong
 abbrev pub surveyed : Option Fault → Layout → Surveyed
-surveyed none l = Laid l
-surveyed (some f) l = Bad f
-
--- the fault that stopped a step
-abbrev pub stopped_by : Step → Surveyed
-stopped_by (At a) = Bad Torn
-stopped_by (Step.Bad f) = Bad f
+surveyed none l = Ok l
+surveyed (some f) l = Err f

@@ -28,29 +28,35 @@ module _ {w : List ℕ} {x : Extent} {lo hi o : ℕ} (k : Between w x lo hi o) w
   between-walk = record { passed = omega (arith, k.ordered, k.within); length_place = refl; row_place = k.place }
 
   -- the row at mid, found by the sum n of the lengths up to it, and of length l
-  module _ (s : Inside w x) (mid : ℕ) (p : lo ≤ mid) (q : mid < hi) where
+  module _ (s : Inside w x) (mid : ℕ) (z : mid ≡ lo + (hi - lo) / 2) (h : lo < hi) where
+    low : lo ≤ mid
+    low = omega arith
+
+    high : mid < hi
+    high = omega arith
+
     pub middle-lengths : x.lengths + 2 * lo + 2 * (mid - lo) ≤ length w
-    middle-lengths = omega (arith, k.within, s.lengths_within)
+    middle-lengths = omega (arith, low, high, k.within, s.lengths_within)
 
     module _ {n : ℕ} (e : n ≡ total (pairs (mid - lo) (drop (x.lengths + 2 * lo) w))) where
       walk : Walk w x mid (x.lengths + 2 * mid) (o + n)
-      walk = walk-on (mid - lo) mid between-walk (omega arith) (omega (arith, k.within)) (omega arith)
+      walk = walk-on (mid - lo) mid between-walk (omega (arith, low)) (omega (arith, high, k.within)) (omega arith)
 
       pub middle-start : o + n ≤ length w
       middle-start = omega (arith, walk.row_place, s.rows_within)
 
       pub middle-length : x.lengths + 2 * mid + 2 ≤ length w
-      middle-length = walk-length walk s (omega (arith, k.within))
+      middle-length = walk-length walk s (omega (arith, high, k.within))
 
       module _ {l : ℕ} (f : l ≡ pair (drop (x.lengths + 2 * mid) w)) where
-        pub middle-row : mid ≡ lo + (hi - lo) / 2 → MiddleRow w x lo hi (record { row = mid; from = o + n; end = o + n + l })
-        middle-row z = record {
+        pub middle-row : MiddleRow w x lo hi (record { row = mid; from = o + n; end = o + n + l })
+        middle-row = record {
           row_is = z;
-          low = p;
-          high = q;
+          low = low;
+          high = high;
           place = walk.row_place;
           end_is = ap (λ m. o + n + m) f;
-          end_in = walk-row walk l (omega (arith, k.within)) f s;
+          end_in = walk-row walk l (omega (arith, high, k.within)) f s;
         }
 
   -- ---- with a row in the middle

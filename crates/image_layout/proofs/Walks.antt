@@ -83,6 +83,10 @@ pub record Walk (w : List ℕ) (x : Extent) (i g o : ℕ) : Type 0 where
 pub walk_start : (w : List ℕ) (x : Extent) → Walk w x 0 x.lengths x.rows
 walk_start w x = record { passed = omega arith; length_place = omega arith; row_place = refl }
 
+-- a walk by its row alone: the next length stands where that row's does
+pub in_place : {w : List ℕ} {x : Extent} {i g o : ℕ} → Walk w x i g o → Walk w x i (x.lengths + 2 * i) o
+in_place k = record { passed = k.passed; length_place = refl; row_place = k.row_place }
+
 -- at the start all rows are left
 pub rest-start : (w : List ℕ) (x : Extent) → rest w x 0 x.rows ≡ rows_in w x
 rest-start w x = refl

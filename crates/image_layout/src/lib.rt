@@ -31,9 +31,8 @@ pub fn pair_at(w: &[u8], at: usize) -> usize
     ensures number { result ≡ pair (drop at w.now) }
     ensures bounded { result ≤ most_pair }
 {
-    let a = numbers::wide(w[at]);
-    let b = numbers::wide(w[at + 1]);
-    a * 256 + b
+    // by hand: with u16::from_be_bytes an image is read a tenth slower
+    numbers::wide(w[at]) * 256 + numbers::wide(w[at + 1])
 }
 
 // The sum of the `n` numbers of two bytes from `at` on.
@@ -42,13 +41,9 @@ pub fn sum(w: &[u8], at: usize, n: usize) -> usize
     requires bounded { total (pairs n (drop at w.now)) ≤ longest_slice }
     ensures { result ≡ total (pairs n (drop at w.now)) }
 {
-    let mut i = 0;
-    let mut g = at;
     let mut s = 0;
-    while i < n {
-        s += pair_at(w, g);
-        g += 2;
-        i += 1;
+    for i in 0..n {
+        s += pair_at(w, at + 2 * i);
     }
     s
 }

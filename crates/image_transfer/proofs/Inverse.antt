@@ -10,9 +10,9 @@ use lib.Dec.{leb}
 use lib.ListN.{length, take, drop}
 use lib.Seq.{take_at}
 use borrow.Author.Tests.{le-leb}
+use Rattle.std.specs.Prelude.{Ok, Err}
 use Rattle.answers.specs.declared.Fault.{Fault}
 use Rattle.answers.specs.declared.Fault.TheVariants.{TooShort}
-use Rattle.answers.specs.declared.Written.TheVariants.{Length, Unwritten}
 use Rattle.rows.specs.Tables.{Tables}
 use Rattle.image.specs.Image.{image_fault}
 use Rattle.image_judge.specs.Faults.{tables_in}
@@ -20,7 +20,6 @@ use Rattle.image.specs.Store.{is_sound, held}
 use Rattle.image_layout.specs.Layout.{counts_size, header, middle}
 use Rattle.table_update.proofs.Images.{length-middle}
 use Rattle.table_update.proofs.Stores.{store-sound}
-use Rattle.image_transfer.specs.declared.Loaded.TheVariants.{Done}
 use Rattle.image_transfer.specs.Transfer.{image_with, image_of, overlaid, loaded, written_of, buffer_of, Writes}
 use Rattle.image_transfer.specs.Inverse.{WrittenIsRead, ReadIsWritten, OnlyImage, Restores, Rewrites}
 use Rattle.image_transfer.proofs.Accepted.{accepted-image, image-accepted}
@@ -56,14 +55,14 @@ only-image v w b c h k e = sym (read-is-written v b h) ∙ ap image_of e ∙ rea
 
 -- a length answered is that of the image, which stands at the buffer's front
 module _ (found after : List ℕ) (n : ℕ) where
-  fitting : (t : Tables) (b : Bool) → Length n ≡ cond b (Length (length (image_of t))) (Unwritten TooShort) → after ≡ cond b (overlaid (image_of t) found) found
+  fitting : (t : Tables) (b : Bool) → Ok n ≡ cond b (Ok (length (image_of t))) (Err TooShort) → after ≡ cond b (overlaid (image_of t) found) found
       → take n after ≡ image_of t
   fitting t true e k =
       let l : length (image_of t) ≡ n = cc in
       ap (take n) k ∙ take_at (image_of t) (drop (length (image_of t)) found) n l
   fitting t false e k = cc
 
-  stands : (o : Option Tables) → Writes o found after (Length n) → (t : Tables) × (o ≡ some t) × (take n after ≡ image_of t)
+  stands : (o : Option Tables) → Writes o found after (Ok n) → (t : Tables) × (o ≡ some t) × (take n after ≡ image_of t)
   stands none k = let e = k.answer_is in absurd (let z : ◌≡◌ {A = ℕ} 0 1 = cc in omega arith)
   stands (some t) k = (t, refl, fitting t (leb (length (image_of t)) (length found)) k.answer_is k.buffer_is)
 
@@ -73,10 +72,10 @@ restores store buffer written found after n r b k l =
     let t = s.0 in
     let a = written-is-read store t b s.1 in
     let f : image_fault (take n written) ≡ none = ap image_fault s.2 ∙ a.0 in
-    let d : r ≡ Done = l.answer_is ∙ ap loaded f in
+    let d : r ≡ (Ok tt) = l.answer_is ∙ ap loaded f in
     (d, l.rows_are d ∙ ap (λ v. some (tables_in v)) s.2 ∙ ap some a.1 ∙ sym s.1)
 
-accepts : (o : Option Fault) → Done ≡ loaded o → o ≡ none
+accepts : (o : Option Fault) → (Ok tt) ≡ loaded o → o ≡ none
 accepts none e = refl
 accepts (some f) e = cc
 

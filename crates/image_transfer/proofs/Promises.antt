@@ -1,6 +1,6 @@
 -- What the two calls promise, by what the code finds. Assumes nothing.
 use mathlib.Core.Path.{◌≡◌, refl, sym, ap, ◌∙◌}
-use mathlib.Core.Bool.{true, false}
+use mathlib.Core.Bool.{true}
 use mathlib.Core.List.{List}
 use mathlib.Core.Option.{none, some}
 use Prim.Native.Nat.{ℕ, ◌+◌, ◌≤◌, ◌<◌}
@@ -8,9 +8,9 @@ use native.Mathlib.Omega.{arith}
 use lib.ListN.{length, take, drop}
 use lib.Seq.{paste}
 use borrow.Author.Tests.{le-leb, lt-leb}
+use Rattle.std.specs.Prelude.{Ok, Err}
 use Rattle.answers.specs.declared.Fault.{Fault}
-use Rattle.answers.specs.declared.Fault.TheVariants.{NotSound, TooShort}
-use Rattle.answers.specs.declared.Written.TheVariants.{Length, Unwritten}
+use Rattle.answers.specs.declared.Fault.TheVariants.{TooShort}
 use Rattle.numbers.proofs.Bools.{cond-true}
 use Rattle.numbers.specs.BigEndian.{Octets}
 use Rattle.image_layout.specs.declared.Extent.{Extent}
@@ -18,10 +18,10 @@ use Rattle.image_layout.specs.declared.Layout.{Layout}
 use Rattle.image_layout.specs.Layout.{Inside, end_of, layout_of, laid_out, image_end, most_rows}
 use Rattle.image_layout.proofs.Walks.{piece}
 use Rattle.image.specs.Image.{image_fault}
-use Rattle.image_judge.specs.Faults.{tables_in}
-use Rattle.image.specs.Store.{room, is_sound, held}
+use Rattle.image_judge.specs.Faults.{tables_in, surveyed}
+use Rattle.image.specs.Store.{room, is_sound, store_fault, held}
+use Rattle.image.proofs.Surveys.{store-bad, store-only}
 use Rattle.table_update.proofs.Stores.{sound-few, store-sound}
-use Rattle.image_transfer.specs.declared.Loaded.TheVariants.{Done, Faulty}
 use Rattle.image_transfer.specs.Transfer.{image_of, overlaid, all_rows, Reads, Writes}
 use Rattle.image_transfer.proofs.Accepted.{image-accepted, image_room}
 use Rattle.image_transfer.proofs.Again.{length-again, take_again}
@@ -30,11 +30,11 @@ use Rattle.image_transfer.proofs.Parts.{length-overlaid, paste-front, overlaid-c
 
 -- ---- reading
 
-pub reads-refused : (image found : List ℕ) (f : Fault) → image_fault image ≡ some f → Reads image found found (Faulty f)
+pub reads-refused : (image found : List ℕ) (f : Fault) → image_fault image ≡ some f → Reads image found found (Err f)
 reads-refused image found f e = record { answer_is = rw e; number_is = rw e; store_is = rw e; rows_are = λ d. cc }
 
 pub reads-done : (image found : List ℕ) {after : List ℕ} → Octets image → length found ≡ room → image_fault image ≡ none
-    → after ≡ paste found 0 image (length image) → Reads image found after Done
+    → after ≡ paste found 0 image (length image) → Reads image found after (Ok tt)
 reads-done image found {after} b s e p =
     let q : after ≡ overlaid image found = p ∙ paste-front image found in
     let l : length after ≡ room = ap length q ∙ length-overlaid image found (omega (arith, image_room image e)) ∙ s in
@@ -63,9 +63,11 @@ module _ (w : List ℕ) (h : is_sound w ≡ true) {l : Layout} (q : l ≡ layout
   all_laid e = rw (e ∙ ap all_rows q) (all_in w h)
 
 module _ (w found : List ℕ) where
-  pub writes-unsound : is_sound w ≡ false → Writes (held w) found found (Unwritten NotSound)
+  pub writes-unsound : {f : Fault} → Err f ≡ surveyed (store_fault w) (layout_of w) → Writes (held w) found found (Err f)
   unfolding held
-  writes-unsound h = record { answer_is = rw h; number_is = rw h; buffer_is = rw h }
+  writes-unsound e =
+      let h = store-bad w e in
+      rw (store-only w e) (record { answer_is = rw h; number_is = rw h; buffer_is = rw h })
 
   module _ (b : Octets w) (h : is_sound w ≡ true) where
     held-is : held w ≡ some (tables_in w)
@@ -77,19 +79,19 @@ module _ (w found : List ℕ) where
 
     -- the rows of x, and where they end
     module _ {x : Extent} (a : AllIn w x) {end : ℕ} (n : end ≡ end_of w x) where
-      pub writes_short : length found < end → Writes (held w) found found (Unwritten TooShort)
+      pub writes_short : length found < end → Writes (held w) found found (Err TooShort)
       writes_short s =
           let e = lt-leb (length (image_of (tables_in w))) (length found) (omega (arith, length_is, a.end_is)) in
           rw held-is (record { answer_is = rw e; number_is = rw e; buffer_is = rw e })
 
       -- what lies ahead of them copied, and the rows written behind it
       pub writes-done : {copied after : List ℕ} → end ≤ length found → copied ≡ paste found 0 (piece w 0 x.rows) (length (piece w 0 x.rows))
-          → after ≡ overlaid (take (end_of w x) w) copied → Writes (held w) found after (Length end)
+          → after ≡ overlaid (take (end_of w x) w) copied → Writes (held w) found after (Ok end)
       writes-done {copied} {after} s c p =
           let e = le-leb (length (image_of (tables_in w))) (length found) (omega (arith, length_is, a.end_is)) in
           let q : take (end_of w x) w ≡ image_of (tables_in w) =
           ap (λ m. take m w) a.end_is ∙ take_again w b (store-sound w h).rows_sound (store-sound w h).end_in in
           let o : after ≡ overlaid (take (end_of w x) w) found =
           p ∙ overlaid-copied w found x.rows (omega (arith, a.inside.rows_within)) c (end_of w x) (omega arith) a.inside.rows_within in
-          let i = ap Length (n ∙ a.end_is ∙ sym length_is) in
+          let i = ap Ok (n ∙ a.end_is ∙ sym length_is) in
           rw held-is (record { answer_is = rw e i; number_is = rw e; buffer_is = rw e (o ∙ ap (λ v. overlaid v found) q) })

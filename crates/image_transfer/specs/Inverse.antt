@@ -1,15 +1,14 @@
 -- Reading and writing are each other's inverse, of rows and of the two calls: statements, proved in proofs/Inverse.antt. Assumes nothing.
 use Rattle.std.specs.Prelude.{◌≡◌, List, ℕ, ◌≤◌, length, take}
 use Rattle.std.proofs.Math.Option.{none, some}
-use Rattle.answers.specs.declared.Written.{Written}
-use Rattle.answers.specs.declared.Written.TheVariants.{Length}
+use Rattle.std.specs.Prelude.{Ok}
+use Rattle.answers.specs.Types.{Written}
 use Rattle.numbers.specs.BigEndian.{Octets}
 use Rattle.rows.specs.Tables.{Tables}
 use Rattle.image.specs.Image.{image_fault}
 use Rattle.image_judge.specs.Faults.{tables_in}
 use Rattle.image.specs.Store.{held}
-use Rattle.image_transfer.specs.declared.Loaded.{Loaded}
-use Rattle.image_transfer.specs.declared.Loaded.TheVariants.{Done}
+use Rattle.image_transfer.specs.Types.{Loaded}
 use Rattle.image_transfer.specs.Transfer.{image_of, overlaid, Reads, Writes}
 
 -- ---- rows
@@ -33,12 +32,12 @@ OnlyImage = (v w : List ℕ) → Octets v → Octets w → image_fault v ≡ non
 abbrev pub Restores : Type 0
 Restores =
     (store buffer written found after : List ℕ) (n : ℕ) (r : Loaded)
-    → Octets store → Writes (held store) buffer written (Length n) → Reads (take n written) found after r
-    → (r ≡ Done) × (held after ≡ held store)
+    → Octets store → Writes (held store) buffer written (Ok n) → Reads (take n written) found after r
+    → (r ≡ (Ok tt)) × (held after ≡ held store)
 
 -- an image read into a store and written from it is the same
 abbrev pub Rewrites : Type 0
 Rewrites =
     (image found store buffer written : List ℕ) (r : Written)
-    → Octets image → Reads image found store Done → Writes (held store) buffer written r → length image ≤ length buffer
-    → (r ≡ Length (length image)) × (written ≡ overlaid image buffer)
+    → Octets image → Reads image found store (Ok tt) → Writes (held store) buffer written r → length image ≤ length buffer
+    → (r ≡ Ok (length image)) × (written ≡ overlaid image buffer)

@@ -1,3 +1,4 @@
+pub mod Types
 pub mod Transfer
 pub mod Inverse
 pub mod Examples

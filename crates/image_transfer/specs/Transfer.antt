@@ -2,11 +2,11 @@
 -- Assumes nothing.
 use Rattle.std.specs.Prelude.{◌≡◌, cond, List, [], ◌∷◌, ◌++◌, map, ℕ, ◌+◌, ◌≤◌, leb, length, take, drop}
 use Rattle.std.proofs.Math.Option.{Option, none, some}
+use Rattle.std.specs.Prelude.{Ok, Err}
 use Rattle.answers.specs.Numbers.{fault_number, written_number}
 use Rattle.answers.specs.declared.Fault.{Fault}
 use Rattle.answers.specs.declared.Fault.TheVariants.{NotSound, TooShort}
-use Rattle.answers.specs.declared.Written.{Written}
-use Rattle.answers.specs.declared.Written.TheVariants.{Length, Unwritten}
+use Rattle.answers.specs.Types.{Written}
 use Rattle.rows.specs.declared.Table.TheVariants.{Context, Mapping, Access, View}
 use Rattle.rows.specs.Fields.{row_bytes}
 use Rattle.rows.specs.Rows.{ContextRow, MappingRow, AccessRow, ViewRow, row_fields, context_fields, mapping_fields, access_fields, view_fields}
@@ -18,8 +18,7 @@ use Rattle.image.specs.Image.{image_fault}
 use Rattle.image_judge.specs.Faults.{tables_in}
 use Rattle.image.specs.Store.{held}
 use Rattle.image_layout.specs.Written.{pairs_of, concatenated}
-use Rattle.image_transfer.specs.declared.Loaded.{Loaded}
-use Rattle.image_transfer.specs.declared.Loaded.TheVariants.{Done, Faulty}
+use Rattle.image_transfer.specs.Types.{Loaded}
 
 -- ---- the image of four tables
 
@@ -66,12 +65,12 @@ overlaid new found = new ++ drop (length new) found
 
 -- document 01's number for each case
 abbrev pub loaded_number : Loaded → ℕ
-loaded_number Done = 0
-loaded_number (Faulty f) = fault_number f
+loaded_number (Ok tt) = 0
+loaded_number (Err f) = fault_number f
 
 abbrev pub loaded : Option Fault → Loaded
-loaded none = Done
-loaded (some f) = Faulty f
+loaded none = (Ok tt)
+loaded (some f) = Err f
 
 -- the store afterwards: the image at its front; a refusal leaves it as found
 abbrev pub replaced : Option Fault → List ℕ → List ℕ → List ℕ
@@ -83,14 +82,14 @@ pub record Reads (image found after : List ℕ) (r : Loaded) : Type 0 where
   pub answer_is : r ≡ loaded (image_fault image)
   pub number_is : loaded_number r ≡ loaded_number (loaded (image_fault image))
   pub store_is : after ≡ replaced (image_fault image) image found
-  pub rows_are : r ≡ Done → held after ≡ some (tables_in image)
+  pub rows_are : r ≡ (Ok tt) → held after ≡ some (tables_in image)
 
 -- ---- writing
 
 -- 6 first, then 16
 abbrev pub written_of : Option Tables → ℕ → Written
-written_of none room = Unwritten NotSound
-written_of (some t) room = cond (leb (length (image_of t)) room) (Length (length (image_of t))) (Unwritten TooShort)
+written_of none room = Err NotSound
+written_of (some t) room = cond (leb (length (image_of t)) room) (Ok (length (image_of t))) (Err TooShort)
 
 -- the buffer afterwards: the image at its front; a refusal leaves it as found
 abbrev pub buffer_of : Option Tables → List ℕ → List ℕ

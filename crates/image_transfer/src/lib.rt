@@ -6,49 +6,28 @@ ghost use Rattle.image_layout.specs.Layout.{end_of, most_rows};
 ghost use Rattle.image.specs.Store.{held};
 ghost use Rattle.image_transfer.specs.Transfer.{overlaid, Writable, all_rows, loaded_number, Reads, Writes};
 
-use answers::{Fault, Written};
+use answers::Fault;
 use image::ROOM;
-use image_judge::Surveyed;
 use image_layout::{Extent, HEADER, Layout};
 
-// The answer of reading an image into a store.
-#[derive(Clone, Copy)]
-pub enum Loaded {
-    Done,
-    Faulty(Fault),
-}
-
 // Document 01's number for each case.
-pub fn loaded_number(l: Loaded) -> u32
+pub fn loaded_number(l: Result<(), Fault>) -> u32
     ensures { result ≡ loaded_number l }
 {
     match l {
-        Loaded::Done => 0,
-        Loaded::Faulty(f) => answers::fault_number(f),
+        Ok(()) => 0,
+        Err(f) => answers::fault_number(f),
     }
 }
 
 // An image read into a store. It is judged whole before a byte is copied, so that a refusal leaves the store as found.
 // The type gives the store its size: there is no 6.
-pub fn read_image(image: &[u8], store: &mut [u8; ROOM]) -> Loaded
+pub fn read_image(image: &[u8], store: &mut [u8; ROOM]) -> Result<(), Fault>
     ensures { Reads image.now store.old store.new result }
 {
-    let surveyed = image::survey_image(image);
-    match surveyed {
-        Surveyed::Bad(f) => Loaded::Faulty(f),
-        Surveyed::Laid(_) => {
-            splice::copy_in(store, 0, image);
-            Loaded::Done
-        }
-    }
-}
-
-// A row into its own part of the buffer: as a row lies in a store it lies in an image.
-fn write_row(part: &mut [u8], row: &[u8])
-    requires { length part.old ≡ length row.now }
-    ensures { part.new ≡ row.now }
-{
-    splice::copy_in(part, 0, row);
+    image::survey_image(image)?;
+    splice::copy_in(store, 0, image);
+    Ok(())
 }
 
 // The rows of an extent, each into the part of the buffer where it stands in the image.
@@ -56,16 +35,11 @@ fn write_rows(store: &[u8], x: Extent, out: &mut [u8])
     requires { Writable store.now x out.old }
     ensures { out.new ≡ overlaid (take (end_of store.now x) store.now) out.old }
 {
-    let n = x.count;
-    let mut i = 0;
-    let mut g = x.lengths;
     let mut o = x.rows;
-    while i < n {
-        let e = o + image_layout::pair_at(store, g);
-        write_row(&mut out[o..e], &store[o..e]);
-        g += 2;
+    for i in 0..x.count {
+        let e = o + image_layout::pair_at(store, x.lengths + 2 * i);
+        out[o..e].copy_from_slice(&store[o..e]);
         o = e;
-        i += 1;
     }
 }
 
@@ -82,20 +56,16 @@ fn all_rows(l: Layout) -> Extent
 }
 
 // The image of a store's tables written into a buffer: the header and the array of lengths first, then row by row.
-pub fn write_image(store: &[u8], out: &mut [u8]) -> Written
+pub fn write_image(store: &[u8], out: &mut [u8]) -> Result<usize, Fault>
     ensures { Writes (held store.now) out.old out.new result }
 {
-    let surveyed = image::survey_store(store);
-    let Surveyed::Laid(l) = surveyed else {
-        return Written::Unwritten(Fault::NotSound);
-    };
-    let all = all_rows(l);
+    let all = all_rows(image::survey_store(store)?);
     let rows = all.rows;
     let end = image_layout::end_of(store, all);
     if out.len() < end {
-        return Written::Unwritten(Fault::TooShort);
+        return Err(Fault::TooShort);
     }
     splice::copy_in(out, 0, &store[0..rows]);
     write_rows(store, all, out);
-    Written::Length(end)
+    Ok(end)
 }

@@ -10,9 +10,9 @@ use Prim.Native.Nat.{ℕ, ◌≤◌}
 use native.Mathlib.Omega.{arith}
 use lib.ListN.{length, take, drop, take-append-drop}
 use lib.Seq.{take-append_seam, drop-append_seam}
+use Rattle.std.specs.Prelude.{Ok}
 use Rattle.answers.specs.declared.Fault.{Fault}
-use Rattle.answers.specs.declared.Written.{Written}
-use Rattle.answers.specs.declared.Written.TheVariants.{Length}
+use Rattle.answers.specs.Types.{Written}
 use Rattle.numbers.specs.Lists.{is_none}
 use Rattle.numbers.specs.Order.{begins}
 use Rattle.numbers.proofs.Options.{is-none}
@@ -25,9 +25,9 @@ use Rattle.rows.specs.Fields.{faults, values, index}
 use Rattle.rows.specs.Rows.{key_fields, index_of}
 use Rattle.rows.proofs.Inverse.{faults-made, values-made, bytes-again, legals-read}
 use Rattle.rows.proofs.Sound.{cond-none}
-use Rattle.instance_decode.specs.declared.Decoded.TheVariants.{Instance}
 use Rattle.instance_encode.specs.Instances.{base, instance, lists, encode_fault, written, Encodes}
 use Rattle.instance_fields.specs.Indices.{parse_index}
+use Rattle.instance_decode.specs.declared.Instance.{Instance}
 use Rattle.instance_decode.specs.Decoding.{Reading, read_index, read_column, table_of, read_instance, key_bytes, decoded, buffered}
 use Rattle.numbers.specs.BigEndian.{Octets}
 use Rattle.instance_decode.specs.Inverse.{Encodable, reading_of, ReadsWritten, WritesRead, DecodeAfterEncode, EncodeAfterDecode}
@@ -97,11 +97,11 @@ writes-read oid d e =
 -- ---- of the calls
 
 -- what was written was encodable, and is the instance at the front
-module _ (t : Table) (column : ℕ) (key out out' : List ℕ) (n : ℕ) (e : Encodes t column key out out' (Length n)) where
+module _ (t : Table) (column : ℕ) (key out out' : List ℕ) (n : ℕ) (e : Encodes t column key out out' (Ok n)) where
   whole : List ℕ
   whole = instance t column (index_of t key)
 
-  success : (o : Option Fault) (m : ℕ) → Length n ≡ written o m → (o ≡ none) × (n ≡ m)
+  success : (o : Option Fault) (m : ℕ) → Ok n ≡ written o m → (o ≡ none) × (n ≡ m)
   success none m q = (refl, cc)
   success (some f) m q = (cc, cc)
 
@@ -126,41 +126,40 @@ unfolding whole
 decode-after-encode t column key out out' n b e found after r d =
     let w = reads-written t column key b (encodable t column key out out' n e) in
     let q : read_instance (take n out') ≡ some (reading_of t column key) = ap read_instance (front t column key out out' n e) ∙ w.0 in (
-      d.answer_is ∙ ap decoded q ∙ ap (λ k. Instance t column (length k)) w.1,
+      d.answer_is ∙ ap decoded q ∙ ap (λ k. Ok (record { table = t; column = column; key = length k })) w.1,
       d.buffer_is ∙ ap (λ o. buffered o found) q ∙ ap (λ k. k ++ drop (length k) found) w.1,
     )
 
 -- what was decoded is read so, and its bytes are the key at the front
-record Delivered (o : Option Reading) (after : List ℕ) (t : Table) (column n : ℕ) : Type 0 where
+record Delivered (o : Option Reading) (after : List ℕ) (i : Instance) : Type 0 where
   it : Reading
   is : o ≡ some it
-  table_is : it.table ≡ t
-  column_is : it.column ≡ column
-  key_is : take n after ≡ key_bytes it
+  table_is : it.table ≡ i.table
+  column_is : it.column ≡ i.column
+  key_is : take i.key after ≡ key_bytes it
 
-delivered : (o : Option Reading) (found after : List ℕ) (t : Table) (column n : ℕ) → Instance t column n ≡ decoded o → after ≡ buffered o found
-    → Delivered o after t column n
-delivered none found after t column n e b = let z : ◌≡◌ {A = ℕ} 0 1 = cc in absurd (omega arith)
-delivered (some d) found after t column n e b =
-    let l : n ≡ length (key_bytes d) = cc in
+delivered : (o : Option Reading) (found after : List ℕ) (i : Instance) → Ok i ≡ decoded o → after ≡ buffered o found → Delivered o after i
+delivered none found after i e b = let z : ◌≡◌ {A = ℕ} 0 1 = cc in absurd (omega arith)
+delivered (some d) found after i e b =
+    let q : i ≡ record { table = d.table; column = d.column; key = length (key_bytes d) } = cc in
     record {
       it = d;
       is = refl;
-      table_is = cc;
-      column_is = cc;
-      key_is = ap (λ m. take m after) l ∙ ap (take (length (key_bytes d))) b ∙ take-append_seam (key_bytes d) (drop (length (key_bytes d)) found);
+      table_is = sym (ap (λ (u : Instance). u.table) q);
+      column_is = sym (ap (λ (u : Instance). u.column) q);
+      key_is = ap (λ (u : Instance). take u.key after) q ∙ ap (take (length (key_bytes d))) b ∙ take-append_seam (key_bytes d) (drop (length (key_bytes d)) found);
     }
 
 written-again : (oid : List ℕ) (d : Reading) → WritesRead oid d → (out out' : List ℕ) (r : Written) → length oid ≤ length out
-    → Encodes d.table d.column (key_bytes d) out out' r → (r ≡ Length (length oid)) × (out' ≡ oid ++ drop (length oid) out)
+    → Encodes d.table d.column (key_bytes d) out out' r → (r ≡ Ok (length oid)) × (out' ≡ oid ++ drop (length oid) out)
 written-again oid d w out out' r h e =
     let t = d.table in
     let key = key_bytes d in
     let a : encode_fault t d.column key (length out) ≡ none =
     encode-accepted t d.column key out w.encodable.listed w.encodable.sound (rw w.again h) in
-    (e.answer_is ∙ rw a (ap (λ v. Length (length v)) w.again), e.buffer_is ∙ rw a (ap (λ v. v ++ drop (length v) out) w.again))
+    (e.answer_is ∙ rw a (ap (λ v. Ok (length v)) w.again), e.buffer_is ∙ rw a (ap (λ v. v ++ drop (length v) out) w.again))
 
 pub encode-after-decode : EncodeAfterDecode
-encode-after-decode oid found after t column n d out out' r h e =
-    let q = delivered (read_instance oid) found after t column n d.answer_is d.buffer_is in
+encode-after-decode oid found after i d out out' r h e =
+    let q = delivered (read_instance oid) found after i d.answer_is d.buffer_is in
     written-again oid q.it (writes-read oid q.it q.is) out out' r h (rw (← q.key_is, q.table_is, q.column_is) e)

@@ -1,4 +1,5 @@
 pub mod Begins
+pub mod Missing
 pub mod Answers
 pub mod Inverse
 pub mod Examples

@@ -1,6 +1,7 @@
 -- An identifier read as the instance of a column: the inverse of the encoding (document 01, "Row instances"). Assumes nothing.
 use Rattle.std.specs.Prelude.{◌≡◌, cond, List, [], ◌∷◌, ◌++◌, ℕ, length, drop}
 use Rattle.std.proofs.Math.Option.{Option, none, some, map, bind}
+use Rattle.std.specs.Prelude.{Ok, Err, Some, None}
 use Rattle.numbers.specs.Lists.{find}
 use Rattle.numbers.specs.Order.{begins}
 use Rattle.answers.specs.declared.Fault.TheVariants.{NotAnInstance}
@@ -9,10 +10,8 @@ use Rattle.rows.specs.declared.Table.TheVariants.{Context, Mapping, Access, View
 use Rattle.rows.specs.Fields.{row_bytes}
 use Rattle.rows.specs.Rows.{key_fields}
 use Rattle.instance_fields.specs.Indices.{parse_index}
-use Rattle.instance_decode.specs.declared.Found.{Found}
-use Rattle.instance_decode.specs.declared.Found.TheVariants.{In, Nowhere}
-use Rattle.instance_decode.specs.declared.Decoded.{Decoded}
-use Rattle.instance_decode.specs.declared.Decoded.TheVariants.{Instance, Faulty}
+use Rattle.instance_decode.specs.Types.{Found}
+use Rattle.instance_decode.specs.Types.{Decoded}
 use Rattle.instance_decode.specs.Numbers.{decoded_number}
 use Rattle.instance_encode.specs.Instances.{base, lists}
 
@@ -40,8 +39,8 @@ read_instance oid = bind (table_of oid) (λ t. read_column t (drop (length (base
 
 -- the table found, if any is
 abbrev pub found_in : Option Table → Found
-found_in none = Nowhere
-found_in (some t) = In t
+found_in none = None
+found_in (some t) = Some t
 
 -- ---- the call: the key comes back in the form of the image, at the front of the lent buffer
 
@@ -49,8 +48,8 @@ abbrev pub key_bytes : Reading → List ℕ
 key_bytes d = row_bytes (key_fields d.table) d.fields
 
 abbrev pub decoded : Option Reading → Decoded
-decoded none = Faulty NotAnInstance
-decoded (some d) = Instance d.table d.column (length (key_bytes d))
+decoded none = Err NotAnInstance
+decoded (some d) = Ok (record { table = d.table; column = d.column; key = length (key_bytes d) })
 
 abbrev pub buffered : Option Reading → List ℕ → List ℕ
 buffered none found = found

@@ -1,14 +1,14 @@
 -- Encoding and decoding undo each other (document 01, "Row instances"), of the definitions and of the calls. Assumes nothing.
 use Rattle.std.specs.Prelude.{◌≡◌, true, List, ◌++◌, ℕ, ◌≤◌, length, take, drop}
 use Rattle.std.proofs.Math.Option.{none, some}
-use Rattle.answers.specs.declared.Written.{Written}
-use Rattle.answers.specs.declared.Written.TheVariants.{Length}
+use Rattle.std.specs.Prelude.{Ok}
+use Rattle.answers.specs.Types.{Written}
 use Rattle.numbers.specs.BigEndian.{Octets}
 use Rattle.rows.specs.declared.Table.{Table}
 use Rattle.rows.specs.Fields.{faults, values}
 use Rattle.rows.specs.Rows.{key_fields, index_of}
-use Rattle.instance_decode.specs.declared.Decoded.{Decoded}
-use Rattle.instance_decode.specs.declared.Decoded.TheVariants.{Instance}
+use Rattle.instance_decode.specs.Types.{Decoded}
+use Rattle.instance_decode.specs.declared.Instance.{Instance}
 use Rattle.instance_encode.specs.Instances.{instance, lists, Encodes}
 use Rattle.instance_decode.specs.Decoding.{Reading, read_instance, key_bytes, Decodes}
 
@@ -37,13 +37,13 @@ pub record WritesRead (oid : List ℕ) (d : Reading) : Type 0 where
 -- a key is encoded, and the instance decoded: table, column and key again
 abbrev pub DecodeAfterEncode : Type 0
 DecodeAfterEncode =
-    (t : Table) (column : ℕ) (key out out' : List ℕ) (n : ℕ) → Octets key → Encodes t column key out out' (Length n)
+    (t : Table) (column : ℕ) (key out out' : List ℕ) (n : ℕ) → Octets key → Encodes t column key out out' (Ok n)
     → (found after : List ℕ) (r : Decoded) → Decodes (take n out') found after r
-    → (r ≡ Instance t column (length key)) × (after ≡ key ++ drop (length key) found)
+    → (r ≡ Ok (record { table = t; column = column; key = length key })) × (after ≡ key ++ drop (length key) found)
 
 -- an identifier is decoded, and the key encoded where there is room: the identifier again
 abbrev pub EncodeAfterDecode : Type 0
 EncodeAfterDecode =
-    (oid found after : List ℕ) (t : Table) (column n : ℕ) → Decodes oid found after (Instance t column n)
-    → (out out' : List ℕ) (r : Written) → length oid ≤ length out → Encodes t column (take n after) out out' r
-    → (r ≡ Length (length oid)) × (out' ≡ oid ++ drop (length oid) out)
+    (oid found after : List ℕ) (i : Instance) → Decodes oid found after (Ok i)
+    → (out out' : List ℕ) (r : Written) → length oid ≤ length out → Encodes i.table i.column (take i.key after) out out' r
+    → (r ≡ Ok (length oid)) × (out' ≡ oid ++ drop (length oid) out)

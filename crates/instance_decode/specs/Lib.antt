@@ -1,3 +1,4 @@
+pub mod Types
 pub mod Decoding
 pub mod Inverse
 pub mod Examples

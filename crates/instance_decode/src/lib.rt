@@ -10,118 +10,92 @@ ghost use Rattle.instance_decode.specs.Decoding.{table_of, found_in, read_index,
 ghost use Rattle.instance_decode.specs.Numbers.{decoded_number};
 
 use answers::Fault;
-use instance_fields::Read;
-use reader::Part;
 use rows::{KEY_MAX, Table};
 
-// A decoder's answer: the table, the column and the length of the key.
-#[derive(Clone, Copy)]
-pub enum Decoded {
-    Instance(Table, u32, usize),
-    Faulty(Fault),
+// An instance that was read: its table, its column, and how many bytes its key has.
+#[derive(Clone, Copy, PartialEq, Eq, Debug)]
+pub struct Instance {
+    pub table: Table,
+    pub column: u32,
+    pub key: usize,
 }
 
 // The number of document 01 for an answer.
-pub fn decoded_number(d: Decoded) -> u32
+pub fn decoded_number(d: Result<Instance, Fault>) -> u32
     ensures { result ≡ decoded_number d }
 {
     match d {
-        Decoded::Instance(_, _, _) => 0,
-        Decoded::Faulty(f) => answers::fault_number(f),
+        Ok(_) => 0,
+        Err(f) => answers::fault_number(f),
     }
 }
 
 // ---- the index
 
 // The key that an index spells, at the front of `key`. It is made apart from it, so that a refusal leaves `key` as it was.
-fn decode_index(t: Table, column: u32, index: &[u32], made: &mut [u8], key: &mut [u8]) -> Decoded
+fn decode_index(
+    table: Table,
+    column: u32,
+    index: &[u32],
+    made: &mut [u8],
+    key: &mut [u8],
+) -> Result<Instance, Fault>
     requires room { key_max ≤ length made.old }
     requires fits { length made.old ≤ length key.old }
-    ensures { Delivers (read_index t column index.now) key.old key.new result }
+    ensures { Delivers (read_index table column index.now) key.old key.new result }
 {
-    let read = instance_fields::read_fields(t, index, made);
-    let Read::Next(at, n) = read else {
-        return Decoded::Faulty(Fault::NotAnInstance);
-    };
-    if 0 < reader::left_at(index, at) {
-        return Decoded::Faulty(Fault::NotAnInstance);
+    let (at, n) = instance_fields::read_fields(table, index, made).ok_or(Fault::NotAnInstance)?;
+    if at < index.len() {
+        return Err(Fault::NotAnInstance);
     }
-    splice::copy_in(key, 0, &made[0..n]);
-    Decoded::Instance(t, column, n)
+    splice::copy_in(key, 0, &made[..n]);
+    Ok(Instance {
+        table,
+        column,
+        key: n,
+    })
 }
 
 // ---- the base and the column
 
-// Whether the identifier begins with the first `n` of `front`.
-fn begins_with(oid: &[u32], front: &[u8], n: usize) -> bool
-    requires { n ≤ length front.now }
-    ensures { result ≡ begins (take n front.now) oid.now }
+// Whether the identifier begins with these parts.
+fn begins_with(oid: &[u32], front: &[u8]) -> bool
+    ensures { result ≡ begins front.now oid.now }
 {
-    if oid.len() < n {
-        return false;
-    }
-    let mut i = 0;
-    while i < n {
-        if oid[i] != front[i] as u32 {
-            return false;
-        }
-        i += 1;
-    }
-    true
+    front.len() <= oid.len()
+        && front
+            .iter()
+            .zip(oid)
+            .all(|(octet, part)| u32::from(*octet) == *part)
 }
 
 // Whether the identifier begins with the table's base.
 fn is_of_table(t: Table, oid: &[u32]) -> bool
     ensures { result ≡ begins (base t) oid.now }
 {
-    let front = instance_encode::base_of(t);
-    begins_with(oid, &front, instance_encode::base_len(t))
-}
-
-// The table whose base begins an identifier, if one does.
-#[derive(Clone, Copy)]
-enum Found {
-    In(Table),
-    Nowhere,
+    let n = instance_encode::base_len(t);
+    begins_with(oid, &instance_encode::base_of(t)[..n])
 }
 
 // That table.
-fn table_of(oid: &[u32]) -> Found
+fn table_of(oid: &[u32]) -> Option<Table>
     ensures { result ≡ found_in (table_of oid.now) }
 {
-    if is_of_table(Table::Context, oid) {
-        return Found::In(Table::Context);
-    }
-    if is_of_table(Table::Mapping, oid) {
-        return Found::In(Table::Mapping);
-    }
-    if is_of_table(Table::Access, oid) {
-        return Found::In(Table::Access);
-    }
-    if is_of_table(Table::View, oid) {
-        return Found::In(Table::View);
-    }
-    Found::Nowhere
+    [Table::Context, Table::Mapping, Table::Access, Table::View]
+        .into_iter()
+        .find(|t| is_of_table(*t, oid))
 }
 
 // The table, the column and the key of an instance; the key at the front of `key`.
-pub fn decode(oid: &[u32], key: &mut [u8; KEY_MAX]) -> Decoded
+pub fn decode(oid: &[u32], key: &mut [u8; KEY_MAX]) -> Result<Instance, Fault>
     ensures { Decodes oid.now key.old key.new result }
 {
-    let found = table_of(oid);
-    let Found::In(t) = found else {
-        return Decoded::Faulty(Fault::NotAnInstance);
-    };
-    let n = instance_encode::base_len(t);
-    let read = reader::read_from(oid, n);
-    let part = read.part;
-    let Part::Of(column) = part else {
-        return Decoded::Faulty(Fault::NotAnInstance);
-    };
-    if !instance_encode::is_listed(t, column) {
-        return Decoded::Faulty(Fault::NotAnInstance);
+    let table = table_of(oid).ok_or(Fault::NotAnInstance)?;
+    let read = reader::read_from(oid, instance_encode::base_len(table));
+    let column = read.part.ok_or(Fault::NotAnInstance)?;
+    if !instance_encode::is_listed(table, column) {
+        return Err(Fault::NotAnInstance);
     }
-    let k = read.at;
     let mut made = [0u8; KEY_MAX];
-    decode_index(t, column, &oid[k..], &mut made, key)
+    decode_index(table, column, &oid[read.at..], &mut made, key)
 }

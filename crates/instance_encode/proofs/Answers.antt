@@ -9,9 +9,9 @@ use native.Mathlib.Omega.{arith}
 use lib.ListN.{length, drop, get_or, set, length-append}
 use lib.Dec.{leb}
 use borrow.Author.Tests.{le-leb, lt-leb}
+use Rattle.std.specs.Prelude.{Ok, Err}
 use Rattle.answers.specs.declared.Fault.{Fault}
 use Rattle.answers.specs.declared.Fault.TheVariants.{OutOfRange, TooShort}
-use Rattle.answers.specs.declared.Written.TheVariants.{Length, Unwritten}
 use Rattle.numbers.proofs.Bools.{and-false-right}
 use Rattle.rows.specs.declared.Table.{Table}
 use Rattle.rows.specs.declared.Table.TheVariants.{Context, Mapping, Access, View}
@@ -80,14 +80,14 @@ instance-laid n column b v w l h =
 -- ---- the answer
 
 module _ (t : Table) (column : ℕ) (key found : List ℕ) where
-  refused : {f : Fault} → encode_fault t column key (length found) ≡ some f → Encodes t column key found found (Unwritten f)
+  refused : {f : Fault} → encode_fault t column key (length found) ≡ some f → Encodes t column key found found (Err f)
   refused e = record { answer_is = rw e; number_is = rw e; buffer_is = rw e }
 
-  pub encode-unlisted : lists t column ≡ false → Encodes t column key found found (Unwritten OutOfRange)
+  pub encode-unlisted : lists t column ≡ false → Encodes t column key found found (Err OutOfRange)
   unfolding encode_fault
   encode-unlisted e = refused (rw e)
 
-  pub encode-faulty : {f : Fault} → faults (key_fields t) key ≡ some f → Encodes t column key found found (Unwritten OutOfRange)
+  pub encode-faulty : {f : Fault} → faults (key_fields t) key ≡ some f → Encodes t column key found found (Err OutOfRange)
   unfolding encode_fault
   encode-faulty e = refused (rw (e, and-false-right (lists t column) {b = false} refl))
 
@@ -96,7 +96,7 @@ module _ (t : Table) (column : ℕ) (key found : List ℕ) where
     unfolding encode_fault
     judged = rw (l, h)
 
-    pub encode-short : length found < length (instance t column (index_of t key)) → Encodes t column key found found (Unwritten TooShort)
+    pub encode-short : length found < length (instance t column (index_of t key)) → Encodes t column key found found (Err TooShort)
     encode-short r = refused (judged ∙ rw (lt-leb (length (instance t column (index_of t key))) (length found) r))
 
     module _ (r : length (instance t column (index_of t key)) ≤ length found) where
@@ -105,5 +105,5 @@ module _ (t : Table) (column : ℕ) (key found : List ℕ) where
 
       pub encode-done :
           Encodes t column key found (instance t column (index_of t key) ++ drop (length (instance t column (index_of t key))) found)
-          (Length (length (instance t column (index_of t key))))
+          (Ok (length (instance t column (index_of t key))))
       encode-done = record { answer_is = rw encode-accepted; number_is = rw encode-accepted; buffer_is = rw encode-accepted }

@@ -1,24 +1,11 @@
 -- The bases of the tables, in room for the longest: by table, a computation. Assumes nothing.
 use mathlib.Core.Path.{◌≡◌, refl}
 use mathlib.Core.List.{List, [], ◌∷◌, ◌++◌}
-use Prim.Native.Nat.{ℕ, ◌≤◌}
-use native.Mathlib.Omega.{arith}
+use Prim.Native.Nat.{ℕ}
 use lib.ListN.{length, take}
 use Rattle.rows.specs.declared.Table.{Table}
 use Rattle.rows.specs.declared.Table.TheVariants.{Context, Mapping, Access, View}
 use Rattle.instance_encode.specs.Instances.{base, longest_base}
-
-pub base-room : (t : Table) → length (base t) ≤ longest_base
-base-room Context = omega arith
-base-room Mapping = omega arith
-base-room Access = omega arith
-base-room View = omega arith
-
-pub base-padded : (t : Table) → length (take longest_base (base t ++ (0 ∷ []))) ≡ longest_base
-base-padded Context = refl
-base-padded Mapping = refl
-base-padded Access = refl
-base-padded View = refl
 
 base-front : (t : Table) → take (length (base t)) (take longest_base (base t ++ (0 ∷ []))) ≡ base t
 base-front Context = refl

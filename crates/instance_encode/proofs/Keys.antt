@@ -19,7 +19,6 @@ use Rattle.rows.proofs.Sound.{sequence-room, integer-room, field_room, faults-fi
 use Rattle.numbers.proofs.BigEndian.{get_d_front, length-numbers}
 use Rattle.rows.proofs.Places.{numbers-octet}
 use Rattle.instance_encode.specs.Runs.{quads_from, quads_in, runs}
-use Rattle.instance_encode.proofs.Runs.{runs-length}
 
 abbrev most_model : ℕ
 most_model = 2147483647
@@ -194,9 +193,3 @@ key-runs Context key h = context-runs key h
 key-runs Mapping key h = mapping-runs key h
 key-runs Access key h = access-runs key h
 key-runs View key h = view-runs key h
-
--- so an index has three parts fewer than its key has bytes, for each number of four bytes
-pub index-length : (t : Table) (key : List ℕ) → faults (key_fields t) key ≡ none → length (index_of t key) + 3 * quads_in t key ≡ length key
-index-length t key h =
-    let r = key-runs t key h in
-    ap (λ v. length v + 3 * quads_in t key) r.index_is ∙ runs-length (quads_from t key) (quads_in t key) key r.room

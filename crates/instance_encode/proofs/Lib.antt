@@ -4,3 +4,4 @@ pub mod Keys
 pub mod Bases
 pub mod Answers
 pub mod Encoded
+pub mod Sized

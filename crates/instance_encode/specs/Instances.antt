@@ -1,14 +1,14 @@
 -- The instance of a column of a row (RFC 3415 section 4, document 01 "Row instances"): a base, the column, the index. Assumes nothing.
 use Rattle.std.specs.Prelude.{◌≡◌, Bool, cond, ◌&&◌, List, [], ◌∷◌, ◌++◌, ℕ, zero, suc, ◌+◌, eqb, leb, length, drop}
 use Rattle.std.proofs.Math.Option.{Option, none, some}
+use Rattle.std.specs.Prelude.{Ok, Err}
 use Rattle.answers.specs.Numbers.{written_number}
 use Rattle.answers.specs.declared.Fault.{Fault}
 use Rattle.answers.specs.declared.Fault.TheVariants.{OutOfRange, TooShort}
 use Rattle.numbers.specs.Lists.{any, is_none}
 use Rattle.rows.specs.Fields.{faults}
 use Rattle.rows.specs.Rows.{key_fields, index_of}
-use Rattle.answers.specs.declared.Written.{Written}
-use Rattle.answers.specs.declared.Written.TheVariants.{Length, Unwritten}
+use Rattle.answers.specs.Types.{Written}
 use Rattle.rows.specs.declared.Table.{Table}
 use Rattle.rows.specs.declared.Table.TheVariants.{Context, Mapping, Access, View}
 
@@ -60,8 +60,8 @@ encode_fault t column key room =
     (some OutOfRange)
 
 abbrev pub written : Option Fault → ℕ → Written
-written none n = Length n
-written (some f) n = Unwritten f
+written none n = Ok n
+written (some f) n = Err f
 
 -- encoding: the answer and its number; the buffer is the instance and then as found, or wholly as found
 pub record Encodes (t : Table) (column : ℕ) (key found after : List ℕ) (r : Written) : Type 0 where

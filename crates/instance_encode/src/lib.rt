@@ -10,8 +10,8 @@ ghost use Rattle.rows.specs.Rows.{key_fields};
 ghost use Rattle.instance_encode.specs.Instances.{base, longest_base, columns, counted, lists, instance, Encodes};
 ghost use Rattle.instance_encode.specs.Runs.{quads_from, quads_in, runs};
 
-use answers::{Fault, Written};
-use rows::{Step, Table};
+use answers::Fault;
+use rows::Table;
 
 // The parts of the longest base.
 pub const BASE_ROOM: usize = 11;
@@ -20,7 +20,7 @@ pub const BASE_ROOM: usize = 11;
 const MODEL_AND_LEVEL: usize = 5;
 
 // The columns that document 01 lists for a table: they follow one another.
-#[derive(Clone, Copy)]
+#[derive(Clone, Copy, PartialEq, Eq, Debug)]
 pub struct Columns {
     pub first: u8,
     pub count: usize,
@@ -42,19 +42,9 @@ pub fn columns_of(t: Table) -> Columns
 pub fn is_listed(t: Table, column: u32) -> bool
     ensures { result ≡ lists t column }
 {
-    match t {
-        Table::Context => column == 1,
-        Table::Mapping => (column == 3) | (column == 4) | (column == 5),
-        Table::Access => {
-            (column == 4)
-                | (column == 5)
-                | (column == 6)
-                | (column == 7)
-                | (column == 8)
-                | (column == 9)
-        }
-        Table::View => (column == 3) | (column == 4) | (column == 5) | (column == 6),
-    }
+    let c = columns_of(t);
+    let first = u32::from(c.first);
+    (first..first + c.count as u32).contains(&column)
 }
 
 // The base of a table's instances, each part an octet, and a zero behind it where it has ten parts.
@@ -84,36 +74,30 @@ pub fn base_len(t: Table) -> usize
 
 // ---- the index of a key
 
-// A part for each of `n` bytes from `from` on, laid from `at` on.
-fn put_octets(out: &mut [u32], at: usize, bytes: &[u8], from: usize, n: usize)
-    requires room { at + n ≤ length out.old }
-    requires inside { from + n ≤ length bytes.now }
-    ensures { out.new ≡ laid at (take n (drop from bytes.now)) out.old }
+// A part for each byte, laid from `at` on.
+fn put_octets(out: &mut [u32], at: usize, bytes: &[u8])
+    requires { at + length bytes.now ≤ length out.old }
+    ensures { out.new ≡ laid at bytes.now out.old }
 {
-    let mut i = 0;
-    while i < n {
-        out[at + i] = bytes[from + i] as u32;
-        i += 1;
+    for (i, octet) in bytes.iter().enumerate() {
+        out[at + i] = u32::from(*octet);
     }
 }
 
-// A part for each of `n` numbers of four bytes.
-fn put_numbers(out: &mut [u32], at: usize, bytes: &[u8], from: usize, n: usize)
+// A part for each of the first `n` numbers of four bytes.
+// beside `put_octets`: one function with a closure for the part would be longer than the two loops
+fn put_numbers(out: &mut [u32], at: usize, n: usize, bytes: &[u8])
     requires room { at + n ≤ length out.old }
-    requires inside { from + 4 * n ≤ length bytes.now }
-    ensures { out.new ≡ laid at (numbers quad n (drop from bytes.now)) out.old }
+    requires inside { 4 * n ≤ length bytes.now }
+    ensures { out.new ≡ laid at (numbers quad n bytes.now) out.old }
 {
-    let mut i = 0;
-    let mut o = from;
-    while i < n {
-        out[at + i] = numbers::quad_at(bytes, o) as u32;
-        o += 4;
-        i += 1;
+    for i in 0..n {
+        out[at + i] = numbers::quad_at(bytes, 4 * i) as u32;
     }
 }
 
 // Where the numbers of four bytes lie in a key: together, from a place on.
-#[derive(Clone, Copy)]
+#[derive(Clone, Copy, PartialEq, Eq, Debug)]
 pub struct Quads {
     pub from: usize,
     pub count: usize,
@@ -143,50 +127,42 @@ pub fn quads_of(t: Table, key: &[u8]) -> Quads
 }
 
 // The index in its three runs: the bytes before these numbers, the numbers, the bytes behind them.
-fn put_runs(out: &mut [u32], at: usize, key: &[u8], from: usize, quads: usize)
-    requires inside { from + 4 * quads ≤ length key.now }
-    requires room { at + length key.now ≤ length out.old + 3 * quads }
-    ensures { out.new ≡ laid at (runs from quads key.now) out.old }
+fn put_runs(out: &mut [u32], at: usize, key: &[u8], q: Quads)
+    requires inside { q.from + 4 * q.count ≤ length key.now }
+    requires room { at + length key.now ≤ length out.old + 3 * q.count }
+    ensures { out.new ≡ laid at (runs q.from q.count key.now) out.old }
 {
-    let end = from + 4 * quads;
-    put_octets(out, at, key, 0, from);
-    put_numbers(out, at + from, key, from, quads);
-    put_octets(out, at + from + quads, key, end, key.len() - end);
+    put_octets(out, at, &key[..q.from]);
+    put_numbers(out, at + q.from, q.count, &key[q.from..]);
+    put_octets(out, at + q.from + q.count, &key[q.from + 4 * q.count..]);
 }
 
 // ---- the instance
 
 // Base, column and the index in its runs, at the front of `out`.
-fn put_instance(t: Table, column: u32, key: &[u8], from: usize, quads: usize, out: &mut [u32])
-    requires inside { from + 4 * quads ≤ length key.now }
-    requires room { length (base t) + 1 + length key.now ≤ length out.old + 3 * quads }
-    ensures { out.new ≡ laid 0 (instance t column (runs from quads key.now)) out.old }
+fn put_instance(t: Table, column: u32, key: &[u8], q: Quads, out: &mut [u32])
+    requires inside { q.from + 4 * q.count ≤ length key.now }
+    requires room { length (base t) + 1 + length key.now ≤ length out.old + 3 * q.count }
+    ensures { out.new ≡ laid 0 (instance t column (runs q.from q.count key.now)) out.old }
 {
     let n = base_len(t);
-    let front = base_of(t);
-    put_octets(out, 0, &front, 0, n);
+    put_octets(out, 0, &base_of(t)[..n]);
     out[n] = column;
-    put_runs(out, n + 1, key, from, quads);
+    put_runs(out, n + 1, key, q);
 }
 
 // The instance of a column of the row that has the key, at the front of `out`.
-pub fn encode(t: Table, column: u32, key: &[u8], out: &mut [u32]) -> Written
+pub fn encode(t: Table, column: u32, key: &[u8], out: &mut [u32]) -> Result<usize, Fault>
     ensures { Encodes t column key.now out.old out.new result }
 {
-    if !is_listed(t, column) {
-        return Written::Unwritten(Fault::OutOfRange);
+    if !is_listed(t, column) || rows::judge_key(t, key).is_err() {
+        return Err(Fault::OutOfRange);
     }
-    let judged = rows::judge_key(t, key);
-    let Step::At(_) = judged else {
-        return Written::Unwritten(Fault::OutOfRange);
-    };
     let q = quads_of(t, key);
-    let from = q.from;
-    let count = q.count;
-    let n = base_len(t) + 1 + (key.len() - 3 * count);
+    let n = base_len(t) + 1 + (key.len() - 3 * q.count);
     if out.len() < n {
-        return Written::Unwritten(Fault::TooShort);
+        return Err(Fault::TooShort);
     }
-    put_instance(t, column, key, from, count, out);
-    Written::Length(n)
+    put_instance(t, column, key, q, out);
+    Ok(n)
 }

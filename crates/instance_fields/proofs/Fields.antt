@@ -1,7 +1,7 @@
 -- A field of an index parsed where it lies: by the part at its place, and for a sequence by the count there.
 -- Either the index ends there, and both answers are nothing; or it begins there with that part, and the tests are the same. The parts that a
 -- count counts are as many numbers of any size that fits. Assumes nothing.
-use mathlib.Core.Path.{◌≡◌, refl, sym, ap, ◌∙◌}
+use mathlib.Core.Path.{◌≡◌, refl, sym, ap}
 use mathlib.Core.Bool.{Bool, true, false, cond, ◌&&◌}
 use mathlib.Core.List.{List, [], ◌∷◌, ◌++◌}
 use mathlib.Core.Option.{Option, none, some, bind, Option-elim}
@@ -11,15 +11,16 @@ use native.Mathlib.Omega.{arith}
 use lib.ListN.{length, take, drop, get_or, replicate, length-drop, drop_of_length-le}
 use lib.Seq.{drop-cons, drop-drop, length-take-le}
 use lib.Dec.{leb, ltb}
-use borrow.Author.Tests.{ltb-true, ltb-false, leb-true, lt-ltb, le-leb, lt-leb}
+use borrow.Author.Tests.{ltb-true, ltb-false, leb-true, lt-ltb}
+use Rattle.std.specs.Prelude.{Some, None}
+use Rattle.std.proofs.lemmas.Option.{same_Some}
 use Rattle.numbers.proofs.Bools.{split, and_left, and_right}
 use Rattle.rows.proofs.Sound.{within-least, within-most}
 use Rattle.rows.proofs.Steps.{within-yes}
 use Rattle.rows.proofs.Bounds.{longest}
 use Rattle.numbers.specs.BigEndian.{Width, octet, quad, size, bound, bytes, bytes_of, fit}
 use Rattle.rows.specs.Fields.{sequence, integer, within, row_bytes}
-use Rattle.instance_fields.specs.declared.Part.{Part}
-use Rattle.instance_fields.specs.declared.Part.TheVariants.{Of, Amiss}
+use Rattle.instance_fields.specs.Types.{Part}
 use Rattle.instance_fields.specs.Indices.{Parsed, parse_field, parse_fields}
 use Rattle.instance_fields.specs.Reading.{part_at, counting, count_at, largest, any_part, parts_front, field_front, key_front}
 
@@ -28,13 +29,14 @@ drop-next xs i h = rw (add-one i) (drop-cons xs i 0 h)
 
 -- ---- the part that was found, and the count
 
-found : (b : Bool) (y m l : ℕ) {x next left : ℕ} → cond b (Of y m l) Amiss ≡ Of x next left → (b ≡ true) × ((y ≡ x) × ((m ≡ next) × (l ≡ left)))
-found true y m l e = (refl, (cc, (cc, cc)))
+found : (b : Bool) (y m l : ℕ) {x next left : ℕ} → cond {A = Part} b (Some (y, m, l)) None ≡ Some (x, next, left) → (b ≡ true) × ((y ≡ x) × ((m ≡ next) × (l ≡ left)))
+found true y m l {x} {next} {left} e =
+    let p = same_Some {A = ℕ × ℕ × ℕ} (y, m, l) (x, next, left) e in (refl, (ap (λ q. q.0) p, (ap (λ q. q.1) p, ap (λ q. q.2) p)))
 found false y m l e = (cc, (cc, (cc, cc)))
 
-guarded : (p : Part) {x next left : ℕ} → counting p ≡ Of x next left → (p ≡ Of x next left) × (x ≤ left)
-guarded Amiss e = let z : ◌≡◌ {A = ℕ} 0 1 = cc in absurd (omega arith)
-guarded (Of y m l) {x} {next} {left} e =
+guarded : (p : Part) {x next left : ℕ} → counting p ≡ Some (x, next, left) → (p ≡ Some (x, next, left)) × (x ≤ left)
+guarded None e = let z : ◌≡◌ {A = ℕ} 0 1 = cc in absurd (omega arith)
+guarded (Some (y, m, l)) {x} {next} {left} e =
     let f = found (leb y l) y m l e in
     (rw (f.1.0, f.1.1.0, f.1.1.1), rw (← f.1.0, ← f.1.1.1) (leb-true y l f.0))
 
@@ -46,7 +48,7 @@ pub record PartOf (lo hi : ℕ) (index : List ℕ) (at x next left : ℕ) : Type
   pub left_is : left ≡ length index - (at + 1)
 
 module _ (lo hi : ℕ) (index : List ℕ) (at : ℕ) {x next left : ℕ} where
-  pub part_of : part_at lo hi index at ≡ Of x next left → PartOf lo hi index at x next left
+  pub part_of : part_at lo hi index at ≡ Some (x, next, left) → PartOf lo hi index at x next left
   part_of e =
       let y = get_or index at 0 in
       let f = found (ltb at (length index) && within lo hi y) y (at + 1) (length index - (at + 1)) e in
@@ -60,26 +62,19 @@ module _ (lo hi : ℕ) (index : List ℕ) (at : ℕ) {x next left : ℕ} where
         left_is = sym f.1.1.1;
       }
 
-  module _ (e : part_at lo hi index at ≡ Of x next left) where
-    pub count-short : left < x → count_at lo hi index at ≡ Amiss
-    count-short h = ap counting e ∙ rw (lt-leb x left h)
-
-    pub count-whole : x ≤ left → count_at lo hi index at ≡ Of x next left
-    count-whole h = ap counting e ∙ rw (le-leb x left h)
-
-  pub count_of : count_at lo hi index at ≡ Of x next left → PartOf lo hi index at x next left × (x ≤ left)
+  pub count_of : count_at lo hi index at ≡ Some (x, next, left) → PartOf lo hi index at x next left × (x ≤ left)
   count_of e = let g = guarded (part_at lo hi index at) e in (part_of g.0, g.1)
 
 -- ---- a field parsed at a place
 
 -- what follows the part that was found
 abbrev pub after_part : List ℕ → Part → Option (Parsed (List ℕ))
-after_part index Amiss = none
-after_part index (Of x next left) = some (record { holds = x ∷ []; rest = drop next index })
+after_part index None = none
+after_part index (Some (x, next, left)) = some (record { holds = x ∷ []; rest = drop next index })
 
 abbrev pub after_count : Width → List ℕ → Part → Option (Parsed (List ℕ))
-after_count w index Amiss = none
-after_count w index (Of n next left) =
+after_count w index None = none
+after_count w index (Some (n, next, left)) =
     cond (fit w (take n (drop next index))) (some (record { holds = take n (drop next index); rest = drop (next + n) index })) none
 
 module _ (w : Width) (lo hi : ℕ) (index : List ℕ) (at : ℕ) where
@@ -101,7 +96,7 @@ module _ (w : Width) (lo hi : ℕ) (index : List ℕ) (at : ℕ) where
 
   -- a count: as many parts are left behind it, or not
   counted : (n : ℕ) → parse_field (sequence w lo hi) (n ∷ drop (at + 1) index)
-      ≡ after_count w index (counting (cond (within lo hi n) (Of n (at + 1) (length index - (at + 1))) Amiss))
+      ≡ after_count w index (counting (cond (within lo hi n) (Some (n, (at + 1), (length index - (at + 1)))) None))
   unfolding parse_field
   counted n =
       let v = drop (at + 1) index in
@@ -119,12 +114,12 @@ module _ (w : Width) (lo hi : ℕ) (index : List ℕ) (at : ℕ) where
 -- ---- what is laid of a field at a place
 
 abbrev pub part_front : Width → Part → List ℕ
-part_front w Amiss = []
-part_front w (Of x next left) = bytes w x
+part_front w None = []
+part_front w (Some (x, next, left)) = bytes w x
 
 abbrev pub count_front : Width → List ℕ → Part → List ℕ
-count_front w index Amiss = []
-count_front w index (Of n next left) = n ∷ parts_front w (take n (drop next index))
+count_front w index None = []
+count_front w index (Some (n, next, left)) = n ∷ parts_front w (take n (drop next index))
 
 module _ (w : Width) (lo hi : ℕ) (index : List ℕ) (at : ℕ) where
   pub front-integer : hi < bound w → field_front (integer w lo hi) (drop at index) ≡ part_front w (part_at lo hi index at)
@@ -137,7 +132,7 @@ module _ (w : Width) (lo hi : ℕ) (index : List ℕ) (at : ℕ) where
       (λ e. rw (off w lo hi index at e, e))
 
   counted-front : (n : ℕ) → field_front (sequence w lo hi) (n ∷ drop (at + 1) index)
-      ≡ count_front w index (counting (cond (within lo hi n) (Of n (at + 1) (length index - (at + 1))) Amiss))
+      ≡ count_front w index (counting (cond (within lo hi n) (Some (n, (at + 1), (length index - (at + 1)))) None))
   unfolding field_front
   counted-front n =
       let v = drop (at + 1) index in

@@ -10,15 +10,14 @@ use native.Mathlib.Nat.{mul-le-mul_right}
 use native.Mathlib.Omega.{arith}
 use lib.ListN.{length, take, drop, get_or, set, replicate, length-drop}
 use lib.Seq.{drop-drop, length-take-le}
+use Rattle.std.specs.Prelude.{Some, None}
 use Rattle.numbers.specs.BigEndian.{Width, size, bound, bytes, bytes_of, fit}
 use Rattle.rows.specs.Fields.{Field, sequence, integer, within, field_bytes, row_bytes, legal}
 use Rattle.numbers.proofs.BigEndian.{length-bytes, length-bytes_of}
 use Rattle.rows.proofs.Sound.{within-most}
 use Rattle.rows.proofs.Bounds.{longest_field}
 use Rattle.numbers.proofs.Bools.{and_left}
-use Rattle.instance_fields.specs.declared.Read.{Read}
-use Rattle.instance_fields.specs.declared.Read.TheVariants.{Next, Bad}
-use Rattle.instance_fields.specs.declared.Part.TheVariants.{Of, Amiss}
+use Rattle.instance_fields.specs.Types.{Read}
 use Rattle.numbers.specs.Laid.{laid}
 use Rattle.instance_fields.specs.Reading.{part_at, count_at, any_part, Reads, ReadsField, ReadsFields, parts_front, field_front, key_front}
 use Rattle.instance_fields.proofs.Fields.{count_of, parse-integer, parse-sequence, singles, parse-parts, bytes-parts}
@@ -33,15 +32,15 @@ module _ (w : Width) (lo hi : ℕ) (index : List ℕ) (at byte : ℕ) where
   -- ---- a number
 
   module _ (h : hi < bound w) where
-    module _ (e : part_at lo hi index at ≡ Amiss) where
-      pub number-bad : ReadsField (integer w lo hi) index at byte Bad
+    module _ (e : part_at lo hi index at ≡ None) where
+      pub number-bad : ReadsField (integer w lo hi) index at byte None
       number-bad = rw (parse-integer w lo hi index at h, e) refl
 
       pub number-unlaid : (found : List ℕ) → found ≡ laid byte (field_front (integer w lo hi) (drop at index)) found
       number-unlaid found = sym (ap (λ u. laid byte u found) (front-integer w lo hi index at h ∙ ap (part_front w) e) ∙ laid_nil byte found)
 
-    module _ {x next left : ℕ} (e : part_at lo hi index at ≡ Of x next left) where
-      pub number-taken : (end : ℕ) → end ≡ byte + size w → ReadsField (integer w lo hi) index at byte (Next next end)
+    module _ {x next left : ℕ} (e : part_at lo hi index at ≡ Some (x, next, left)) where
+      pub number-taken : (end : ℕ) → end ≡ byte + size w → ReadsField (integer w lo hi) index at byte (Some (next, end))
       number-taken end p =
           rw (parse-integer w lo hi index at h, e) (record {
             next = next;
@@ -57,14 +56,14 @@ module _ (w : Width) (lo hi : ℕ) (index : List ℕ) (at byte : ℕ) where
 
   -- ---- a sequence
 
-  module _ (e : count_at lo hi index at ≡ Amiss) where
-    pub sequence-bad : ReadsField (sequence w lo hi) index at byte Bad
+  module _ (e : count_at lo hi index at ≡ None) where
+    pub sequence-bad : ReadsField (sequence w lo hi) index at byte None
     sequence-bad = rw (parse-sequence w lo hi index at, e) refl
 
     pub sequence-unlaid : (found : List ℕ) → found ≡ laid byte (field_front (sequence w lo hi) (drop at index)) found
     sequence-unlaid found = sym (ap (λ u. laid byte u found) (front-sequence w lo hi index at ∙ ap (count_front w index) e) ∙ laid_nil byte found)
 
-  module _ {n next left : ℕ} (e : count_at lo hi index at ≡ Of n next left) where
+  module _ {n next left : ℕ} (e : count_at lo hi index at ≡ Some (n, next, left)) where
     follow : n ≤ length (drop next index)
     follow = let c = count_of lo hi index at e in omega (arith, c.0.next_is, c.0.left_is, c.1, length-drop next index)
 

@@ -4,12 +4,14 @@
 use mathlib.Core.Path.{◌≡◌, refl, sym, ap, ◌∙◌}
 use mathlib.Core.List.{List, [], ◌∷◌, ◌++◌, append-nil}
 use mathlib.Core.Option.{Option, none, some, map, Option-elim, bind}
-use Prim.Native.Nat.{ℕ, suc, ◌+◌, ◌≤◌, ◌<◌}
+use Prim.Native.Nat.{ℕ, suc, ◌+◌, ◌-◌, ◌≤◌, ◌<◌}
 use native.Mathlib.Nat.{add-zero}
 use native.Mathlib.Numerals.{add-one}
 use native.Mathlib.Omega.{arith}
-use lib.ListN.{length, drop, get_or, length-append}
+use lib.ListN.{length, drop, get_or, replicate, length-append}
 use lib.Seq.{drop-cons, get_or-take}
+use Rattle.std.specs.Prelude.{Some, None}
+use Rattle.std.proofs.lemmas.Option.{some_pair_parts}
 use Rattle.numbers.specs.BigEndian.{octet}
 use Rattle.rows.proofs.Forms.{key-first}
 use Rattle.rows.specs.declared.Table.{Table}
@@ -17,8 +19,7 @@ use Rattle.rows.specs.Fields.{Field, integer, field_bytes, row_bytes}
 use Rattle.rows.specs.Forms.{field_in}
 use Rattle.rows.specs.Rows.{key_fields, row_fields}
 use Rattle.rows.proofs.Bounds.{longest_field, longest}
-use Rattle.instance_fields.specs.declared.Read.{Read}
-use Rattle.instance_fields.specs.declared.Read.TheVariants.{Next, Bad}
+use Rattle.instance_fields.specs.Types.{Read}
 use Rattle.numbers.specs.Laid.{laid}
 use Rattle.instance_fields.specs.Indices.{Parsed, parse_field, led, parse_fields}
 use Rattle.instance_fields.specs.Reading.{Reads, ReadsField, ReadsFields, field_front, key_front}
@@ -38,22 +39,20 @@ pub record Took {A : Type 0} (bytes : A → List ℕ) (o : Option (Parsed A)) (i
 
 -- what is parsed whole is laid whole
 pub took : {A : Type 0} (bytes : A → List ℕ) (index found after : List ℕ) (byte : ℕ) (o : Option (Parsed A)) (front : List ℕ) {r : Read} {next end : ℕ}
-    → ((p : Parsed A) → o ≡ some p → front ≡ bytes p.holds) → Reads bytes o index byte r → after ≡ laid byte front found → r ≡ Next next end
+    → ((p : Parsed A) → o ≡ some p → front ≡ bytes p.holds) → Reads bytes o index byte r → after ≡ laid byte front found → r ≡ Some (next, end)
     → Took bytes o index found after byte next end
 took bytes index found after byte none front h e b n = let z : ◌≡◌ {A = ℕ} 0 1 = cc in absurd (omega arith)
 took bytes index found after byte (some p) front {r} {next} {end} h t b n =
-    let q = t.answer_is in
-    let e : t.next ≡ next = cc in
-    let f : t.end ≡ end = cc in
+    let q = some_pair_parts t.next next t.end end (sym t.answer_is ∙ n) in
     record {
       it = p;
       is = refl;
-      rest_is = rw (← e) t.rest_is;
-      byte_is = rw (← f) t.byte_is;
+      rest_is = rw (← q.0) t.rest_is;
+      byte_is = rw (← q.1) t.byte_is;
       buffer_is = b ∙ ap (λ u. laid byte u found) (h p refl);
     }
 
-pub untaken : {A : Type 0} (bytes : A → List ℕ) (index : List ℕ) (byte : ℕ) (o : Option (Parsed A)) {r : Read} → Reads bytes o index byte r → r ≡ Bad
+pub untaken : {A : Type 0} (bytes : A → List ℕ) (index : List ℕ) (byte : ℕ) (o : Option (Parsed A)) {r : Read} → Reads bytes o index byte r → r ≡ None
     → o ≡ none
 untaken bytes index byte none e b = refl
 untaken bytes index byte (some p) t b = let f = t.answer_is in cc
@@ -62,7 +61,7 @@ untaken bytes index byte (some p) t b = let f = t.answer_is in cc
 
 -- the first is not taken
 module _ (k : Field) (ks : List Field) (index : List ℕ) (at : ℕ) (e : parse_field k (drop at index) ≡ none) where
-  unread : (byte : ℕ) → ReadsFields (k ∷ ks) index at byte Bad
+  unread : (byte : ℕ) → ReadsFields (k ∷ ks) index at byte None
   unfolding parse_fields bind
   unread byte = rw e refl
 
@@ -71,7 +70,7 @@ module _ (k : Field) (ks : List Field) (index : List ℕ) (at : ℕ) (e : parse_
   unread-front = rw e (append-nil (field_front k (drop at index)))
 
 -- none is left
-nothing_left : (index : List ℕ) (at byte : ℕ) → ReadsFields [] index at byte (Next at byte)
+nothing_left : (index : List ℕ) (at byte : ℕ) → ReadsFields [] index at byte (Some (at, byte))
 unfolding parse_fields bind
 nothing_left index at byte = record { next = at; end = byte; answer_is = refl; rest_is = refl; byte_is = sym (add-zero byte) }
 
@@ -130,7 +129,7 @@ way-start all index found at byte h = record { room = h; onward = λ r e. e; lay
 module _ {all : List Field} {index found : List ℕ} {at₀ byte₀ : ℕ} {k : Field} {ks : List Field} {mid : List ℕ} {at byte : ℕ}
     (w : OnWay all index found at₀ byte₀ (k ∷ ks) mid at byte) {r : Read} (e : ReadsField k index at byte r)
     (after : List ℕ) (b : after ≡ laid byte (field_front k (drop at index)) mid) where
-  pub way_next : {next end : ℕ} → r ≡ Next next end → OnWay all index found at₀ byte₀ ks after next end
+  pub way_next : {next end : ℕ} → r ≡ Some (next, end) → OnWay all index found at₀ byte₀ ks after next end
   way_next {next} {end} n =
       let v = drop at index in
       let t = took (field_bytes k) index mid after byte (parse_field k v) (field_front k v) (field-front k v) e b n in
@@ -141,29 +140,39 @@ module _ {all : List Field} {index found : List ℕ} {at₀ byte₀ : ℕ} {k : 
         lays = joined-laid k index mid after at byte next end t h ks ∙ w.lays;
       }
 
-  module _ (n : r ≡ Bad) where
+  module _ (n : r ≡ None) where
     none-taken : parse_field k (drop at index) ≡ none
     none-taken = untaken (field_bytes k) index byte (parse_field k (drop at index)) e n
 
-    pub way-stop : ReadsFields all index at₀ byte₀ Bad
-    way-stop = w.onward Bad (unread k ks index at none-taken byte)
+    pub way-stop : ReadsFields all index at₀ byte₀ None
+    way-stop = w.onward None (unread k ks index at none-taken byte)
 
     pub stop-lays : after ≡ laid byte₀ (key_front all (drop at₀ index)) found
     stop-lays = b ∙ ap (λ u. laid byte u mid) (sym (unread-front k ks index at none-taken)) ∙ w.lays
 
 module _ {all : List Field} {index found : List ℕ} {at₀ byte₀ : ℕ} {mid : List ℕ} {at byte : ℕ} (w : OnWay all index found at₀ byte₀ [] mid at byte) where
-  pub way_end : ReadsFields all index at₀ byte₀ (Next at byte)
-  way_end = w.onward (Next at byte) (nothing_left index at byte)
+  pub way_end : ReadsFields all index at₀ byte₀ (Some (at, byte))
+  way_end = w.onward (Some (at, byte)) (nothing_left index at byte)
 
   pub end-lays : mid ≡ laid byte₀ (key_front all (drop at₀ index)) found
   unfolding key_front
   end-lays = sym (laid_nil byte mid) ∙ w.lays
 
--- ---- the fields of a key by their places: they are the first of its row
+-- ---- the next of fields alike, and of a key's fields: its first is known by a name of its own
 
-pub field-here : (t : Table) (i : ℕ) → i < length (key_fields t) → drop i (key_fields t) ≡ field_in (row_fields t) i ∷ drop (i + 1) (key_fields t)
-field-here t i h =
-    let d : Field = integer octet 1 2 in
-    let e : get_or (key_fields t) i d ≡ get_or (row_fields t) i d =
-    ap (λ ks. get_or ks i d) (sym (key-first t)) ∙ get_or-take (length (key_fields t)) (row_fields t) i d h in
-    rw (add-one i) (drop-cons (key_fields t) i d h ∙ ap (λ k. k ∷ drop (suc i) (key_fields t)) e)
+module _ {all : List Field} {index found : List ℕ} {at₀ byte₀ : ℕ} {mid : List ℕ} {at byte : ℕ} {k : Field} where
+  pub next-alike : {f : Field} (n i : ℕ) → k ≡ f → OnWay all index found at₀ byte₀ (replicate (n - i) f) mid at byte → i < n
+      → OnWay all index found at₀ byte₀ (k ∷ replicate (n - (i + 1)) f) mid at byte
+  next-alike n i e w h =
+      let m : n - i ≡ suc (n - (i + 1)) = omega (arith, h) in
+      rw e (rw m at w)
+
+  pub next-of-key : (t : Table) (i : ℕ) → k ≡ field_in (row_fields t) i → OnWay all index found at₀ byte₀ (drop i (key_fields t)) mid at byte
+      → i < length (key_fields t) → OnWay all index found at₀ byte₀ (k ∷ drop (i + 1) (key_fields t)) mid at byte
+  next-of-key t i e w h =
+      let d : Field = integer octet 1 2 in
+      let g : get_or (key_fields t) i d ≡ get_or (row_fields t) i d =
+      ap (λ ks. get_or ks i d) (sym (key-first t)) ∙ get_or-take (length (key_fields t)) (row_fields t) i d h in
+      let m : drop i (key_fields t) ≡ field_in (row_fields t) i ∷ drop (i + 1) (key_fields t) =
+      rw (add-one i) (drop-cons (key_fields t) i d h) ∙ ap (λ f. f ∷ drop (i + 1) (key_fields t)) g in
+      rw e (rw m at w)

@@ -1,14 +1,13 @@
 -- What a step of the decoder answers, which takes what it reads from an index, and what it lays into the key. Assumes nothing.
 use Rattle.std.specs.Prelude.{◌≡◌, cond, ◌&&◌, List, [], ◌∷◌, ◌++◌, ℕ, ◌+◌, ◌-◌, ltb, leb, length, take, drop, get_or}
 use Rattle.std.proofs.Math.Option.{Option, none, some, Option-elim}
+use Rattle.std.specs.Prelude.{Some, None}
 use Rattle.numbers.specs.BigEndian.{Width, octet, quad, bound, bytes}
 use Rattle.rows.specs.Fields.{Field, sequence, integer, within, field_bytes, row_bytes}
-use Rattle.instance_fields.specs.declared.Read.{Read}
-use Rattle.instance_fields.specs.declared.Read.TheVariants.{Next, Bad}
+use Rattle.instance_fields.specs.Types.{Read}
 use Rattle.instance_fields.specs.declared.Size.{Size}
 use Rattle.instance_fields.specs.declared.Size.TheVariants.{One, Four}
-use Rattle.instance_fields.specs.declared.Part.{Part}
-use Rattle.instance_fields.specs.declared.Part.TheVariants.{Of, Amiss}
+use Rattle.instance_fields.specs.Types.{Part}
 use Rattle.instance_fields.specs.Indices.{Parsed, parse_field, parse_fields}
 
 -- ---- parts
@@ -17,13 +16,13 @@ use Rattle.instance_fields.specs.Indices.{Parsed, parse_field, parse_fields}
 abbrev pub part_at : ℕ → ℕ → List ℕ → ℕ → Part
 part_at lo hi index at =
     cond (ltb at (length index) && within lo hi (get_or index at 0))
-    (Of (get_or index at 0) (at + 1) (length index - (at + 1)))
-    Amiss
+    (Some ((get_or index at 0), (at + 1), (length index - (at + 1))))
+    None
 
 -- as a count: if as many parts are left behind it
 abbrev pub counting : Part → Part
-counting Amiss = Amiss
-counting (Of x next left) = cond (leb x left) (Of x next left) Amiss
+counting None = None
+counting (Some (x, next, left)) = cond (leb x left) (Some (x, next, left)) None
 
 abbrev pub count_at : ℕ → ℕ → List ℕ → ℕ → Part
 count_at lo hi index at = counting (part_at lo hi index at)
@@ -46,12 +45,12 @@ any_part w = integer w 0 (largest w)
 pub record Takes {A : Type 0} (bytes : A → List ℕ) (p : Parsed A) (index : List ℕ) (byte : ℕ) (r : Read) : Type 0 where
   pub next : ℕ
   pub end : ℕ
-  pub answer_is : r ≡ Next next end
+  pub answer_is : r ≡ Some (next, end)
   pub rest_is : p.rest ≡ drop next index
   pub byte_is : end ≡ byte + length (bytes p.holds)
 
 abbrev pub Reads : {A : Type 0} → (A → List ℕ) → Option (Parsed A) → List ℕ → ℕ → Read → Type 0
-Reads bytes none index byte r = r ≡ Bad
+Reads bytes none index byte r = r ≡ None
 Reads bytes (some p) index byte r = Takes bytes p index byte r
 
 -- from a place of the index on

@@ -13,49 +13,27 @@ use rows::{Form, Table};
 
 // ---- the parts of an index
 
-// The part that was looked for, if it is there and in range: with the reader's place behind it, and how many parts are left there.
-#[derive(Clone, Copy)]
-pub enum Part {
-    Of(u32, usize, usize),
-    Amiss,
-}
-
 // The part at a place, if it is from `lo` to `hi`.
-fn number(index: &[u32], at: usize, lo: u32, hi: u32) -> Part
+fn number(index: &[u32], at: usize, lo: u32, hi: u32) -> Option<(u32, usize, usize)>
     ensures { result ≡ part_at lo hi index.now at }
 {
     let read = reader::read_from(index, at);
-    let part = read.part;
-    let reader::Part::Of(x) = part else {
-        return Part::Amiss;
-    };
-    if x < lo {
-        return Part::Amiss;
-    }
-    if hi < x {
-        return Part::Amiss;
-    }
-    Part::Of(x, read.at, read.left)
+    let x = read.part?;
+    (lo..=hi).contains(&x).then_some((x, read.at, read.left))
 }
 
 // The same, if as many parts are left behind it.
-fn count(index: &[u32], at: usize, lo: u32, hi: u32) -> Part
+fn count(index: &[u32], at: usize, lo: u32, hi: u32) -> Option<(u32, usize, usize)>
     ensures { result ≡ count_at lo hi index.now at }
 {
-    let n = number(index, at, lo, hi);
-    let Part::Of(x, _, left) = n else {
-        return n;
-    };
-    if left < x as usize {
-        return Part::Amiss;
-    }
-    n
+    number(index, at, lo, hi).filter(|(x, _, left)| *x as usize <= *left)
 }
 
 // ---- a part as bytes
 
 // How many bytes a part takes in the key.
-#[derive(Clone, Copy)]
+// an enum and two matches: a trait or a const parameter would need its width as a ghost beside it, and one store by slices is no plainer
+#[derive(Clone, Copy, PartialEq, Eq, Debug)]
 pub enum Size {
     One,
     Four,
@@ -66,8 +44,8 @@ fn largest_in(w: Size) -> u32
     ensures { result ≡ largest (width_of w) }
 {
     match w {
-        Size::One => 255,
-        Size::Four => 4294967295,
+        Size::One => u8::MAX as u32,
+        Size::Four => u32::MAX,
     }
 }
 
@@ -92,13 +70,6 @@ fn write_number(w: Size, key: &mut [u8], at: usize, x: u32) -> usize
 
 // ---- the fields of an index
 
-// The place behind what was read, in the index and in the key, if it could be read.
-#[derive(Clone, Copy)]
-pub enum Read {
-    Next(usize, usize),
-    Bad,
-}
-
 // A number from `lo` to `hi`.
 fn integer_at(
     w: Size,
@@ -108,22 +79,25 @@ fn integer_at(
     hi: u32,
     key: &mut [u8],
     byte: usize,
-) -> Read
+) -> Option<(usize, usize)>
     requires room { byte + size (width_of w) ≤ length key.old }
     requires fits { hi < bound (width_of w) }
     ensures reads { ReadsField (integer (width_of w) lo hi) index.now at byte result }
     ensures lays { key.new ≡ laid byte (field_front (integer (width_of w) lo hi) (drop at index.now)) key.old }
 {
-    let part = number(index, at, lo, hi);
-    let Part::Of(x, next, _) = part else {
-        return Read::Bad;
-    };
-    let end = write_number(w, key, byte, x);
-    Read::Next(next, end)
+    let (x, next, _) = number(index, at, lo, hi)?;
+    Some((next, write_number(w, key, byte, x)))
 }
 
 // `n` numbers of any size that fits.
-fn numbers_at(w: Size, index: &[u32], at: usize, n: usize, key: &mut [u8], byte: usize) -> Read
+fn numbers_at(
+    w: Size,
+    index: &[u32],
+    at: usize,
+    n: usize,
+    key: &mut [u8],
+    byte: usize,
+) -> Option<(usize, usize)>
     requires { byte + n * size (width_of w) ≤ length key.old }
     ensures reads { ReadsFields (replicate n (any_part (width_of w))) index.now at byte result }
     ensures lays { key.new ≡ laid byte (key_front (replicate n (any_part (width_of w))) (drop at index.now)) key.old }
@@ -131,17 +105,10 @@ fn numbers_at(w: Size, index: &[u32], at: usize, n: usize, key: &mut [u8], byte:
     let hi = largest_in(w);
     let mut p = at;
     let mut k = byte;
-    let mut i = 0;
-    while i < n {
-        let read = integer_at(w, index, p, 0, hi, key, k);
-        let Read::Next(next, end) = read else {
-            return Read::Bad;
-        };
-        p = next;
-        k = end;
-        i += 1;
+    for _ in 0..n {
+        (p, k) = integer_at(w, index, p, 0, hi, key, k)?;
     }
-    Read::Next(p, k)
+    Some((p, k))
 }
 
 // A count from `lo` to `hi`, and as many parts.
@@ -153,21 +120,18 @@ fn sequence_at(
     hi: u8,
     key: &mut [u8],
     byte: usize,
-) -> Read
+) -> Option<(usize, usize)>
     requires { byte + 1 + hi * size (width_of w) ≤ length key.old }
     ensures reads { ReadsField (sequence (width_of w) lo hi) index.now at byte result }
     ensures lays { key.new ≡ laid byte (field_front (sequence (width_of w) lo hi) (drop at index.now)) key.old }
 {
-    let counted = count(index, at, lo as u32, hi as u32);
-    let Part::Of(n, next, _) = counted else {
-        return Read::Bad;
-    };
+    let (n, next, _) = count(index, at, lo as u32, hi as u32)?;
     key[byte] = n as u8;
     numbers_at(w, index, next, n as usize, key, byte + 1)
 }
 
 // A field by its form.
-fn field(f: Form, index: &[u32], at: usize, key: &mut [u8], byte: usize) -> Read
+fn field(f: Form, index: &[u32], at: usize, key: &mut [u8], byte: usize) -> Option<(usize, usize)>
     requires { byte + room_of f ≤ length key.old }
     ensures reads { ReadsField (field_of f) index.now at byte result }
     ensures lays { key.new ≡ laid byte (field_front (field_of f) (drop at index.now)) key.old }
@@ -181,24 +145,15 @@ fn field(f: Form, index: &[u32], at: usize, key: &mut [u8], byte: usize) -> Read
 }
 
 // The fields of a table's key, one behind the other.
-pub fn read_fields(t: Table, index: &[u32], key: &mut [u8]) -> Read
+pub fn read_fields(t: Table, index: &[u32], key: &mut [u8]) -> Option<(usize, usize)>
     requires { key_max ≤ length key.old }
     ensures reads { ReadsFields (key_fields t) index.now 0 0 result }
     ensures lays { key.new ≡ laid 0 (key_front (key_fields t) index.now) key.old }
 {
-    let n = rows::key_len(t);
     let mut at = 0;
     let mut byte = 0;
-    let mut i = 0;
-    while i < n {
-        let f = rows::form_at(t, i);
-        let read = field(f, index, at, key, byte);
-        let Read::Next(next, end) = read else {
-            return Read::Bad;
-        };
-        at = next;
-        byte = end;
-        i += 1;
+    for i in 0..rows::key_len(t) {
+        (at, byte) = field(rows::form_at(t, i), index, at, key, byte)?;
     }
-    Read::Next(at, byte)
+    Some((at, byte))
 }

@@ -11,14 +11,15 @@ use native.Mathlib.Omega.{arith}
 use lib.Dec.{eqb, leb}
 use lib.ListN.{length}
 use borrow.Author.Tests.{leb-false, lt-leb}
+use Rattle.std.specs.Prelude.{Ok, Err}
+use Rattle.answers.specs.declared.Refusal.TheVariants.{Barred, Faulty}
 use Rattle.numbers.proofs.Bools.{split, clash, and_left, and_right, and_both, and-false-or, and-false-left, and-false-right, or_right}
 use Rattle.rows.specs.declared.Table.{Table}
 use Rattle.rows.specs.declared.Table.TheVariants.{Context, Mapping, Access, View}
 use Rattle.rows.specs.Rows.{limit}
 use Rattle.rows.specs.Tables.{Tables}
 use Rattle.table_update.specs.Tables.{row_at}
-use Rattle.edit_rules.specs.declared.Edited.{Edited}
-use Rattle.edit_rules.specs.declared.Edited.TheVariants.{Done, Barred, Faulty}
+use Rattle.edit_rules.specs.Types.{Edited}
 use Rattle.edit_rules.specs.TableRows.{RowOf, row_of, row_index, storage_of, rows_of, with_rows}
 use Rattle.edit_rules.specs.Edits.{Edit, Outcome, outcome, shape_of, is_create, index_of_edit, row_held, held_fault, row_fault, is_full, rows_after, applied, settled}
 use Rattle.edit_rules.proofs.Outcomes.{own-index}
@@ -32,17 +33,17 @@ use Rattle.isolation.proofs.Circles.{implied, circle_rows, rows-circle, with-cir
 
 -- the tables stay, or the edit is applied
 pub settled-either : (P : Tables → Type 0) (v : Edited) (ts : Tables) (e : Edit) → P ts → P (applied ts e) → P (settled v ts e).rows
-settled-either P Done ts e h k = split (is_full ts e) (λ f. rw f h) (λ f. rw f k)
-settled-either P (Barred c) ts e h k = h
-settled-either P (Faulty f) ts e h k = h
+settled-either P (Ok tt) ts e h k = split (is_full ts e) (λ f. rw f h) (λ f. rw f k)
+settled-either P (Err (Barred c)) ts e h k = h
+settled-either P (Err (Faulty f)) ts e h k = h
 
 pub settled-refused : (v : Edited) (ts : Tables) (e : Edit) → eqb (edited_number (settled v ts e).answer) 0 ≡ false → (settled v ts e).rows ≡ ts
-settled-refused Done ts e h = split (is_full ts e) (λ f. rw f) (λ f. clash {b = true} refl (rw f at h))
-settled-refused (Barred c) ts e h = refl
-settled-refused (Faulty f) ts e h = refl
+settled-refused (Ok tt) ts e h = split (is_full ts e) (λ f. rw f) (λ f. clash {b = true} refl (rw f at h))
+settled-refused (Err (Barred c)) ts e h = refl
+settled-refused (Err (Faulty f)) ts e h = refl
 
 -- an edit that is not answered 'table full' finds room
-found-room : (ts : Tables) (e : Edit) → implies (is_create e.operation) (not (eqb (edited_number (settled Done ts e).answer) 9)) ≡ true → is_full ts e ≡ false
+found-room : (ts : Tables) (e : Edit) → implies (is_create e.operation) (not (eqb (edited_number (settled (Ok tt) ts e).answer) 9)) ≡ true → is_full ts e ≡ false
 unfolding is_full
 found-room ts e h =
     split (is_full ts e)
@@ -133,9 +134,9 @@ module _ (w : Circle) where
 
         pub settled-in : (v : Edited) → implies (is_create e.operation) (not (eqb (edited_number (settled v ts e).answer) 9)) ≡ true
             → settled v (circle_rows w ts) e ≡ circle_of (settled v ts e)
-        settled-in Done q = let f = found-room ts e q in rw (f, full-circle f, applied-circle)
-        settled-in (Barred c) q = refl
-        settled-in (Faulty f) q = refl
+        settled-in (Ok tt) q = let f = found-room ts e q in rw (f, full-circle f, applied-circle)
+        settled-in (Err (Barred c)) q = refl
+        settled-in (Err (Faulty f)) q = refl
 
     -- ---- outside of it
 

@@ -5,21 +5,21 @@ use mathlib.Core.Bool.{Bool, true, false, ◌&&◌}
 use mathlib.Core.List.{List, [], ◌∷◌}
 use Prim.Native.Nat.{ℕ, suc}
 use lib.Dec.{eqb, ltb}
+use Rattle.std.specs.Prelude.{Ok, Err}
+use Rattle.answers.specs.declared.Refusal.TheVariants.{Barred, Faulty}
 use Rattle.answers.specs.declared.Cause.{Cause}
 use Rattle.answers.specs.declared.Cause.TheVariants.{NoSuchContext, NoGroupName, NoAccessEntry, NoSuchView, NotInView}
 use Rattle.answers.specs.declared.Fault.{Fault}
 use Rattle.answers.specs.declared.Fault.TheVariants.{NotSound, OutOfRange, TableFull, RowAbsent, StorageForbids, ContextTable, NotAnInstance, Torn}
 use Rattle.answers.specs.declared.Fault.TheVariants.{NotAscending, TooShort, RowHeld, NotASet}
-use Rattle.answers.specs.declared.Decision.{Decision}
-use Rattle.answers.specs.declared.Decision.TheVariants.{Allowed, Refused}
+use Rattle.answers.specs.Types.{Decision}
 use Rattle.answers.specs.Numbers.{cause_number, fault_number}
 use Rattle.numbers.specs.Lists.{any}
 use Rattle.numbers.proofs.Bools.{split, clash, is_false, is_true, and_left, or_left, or_right}
 use Rattle.rows.specs.declared.Table.{Table}
 use Rattle.rows.specs.declared.Table.TheVariants.{Context, Mapping, Access, View}
 use Rattle.rows.specs.Tables.{Tables}
-use Rattle.edit_rules.specs.declared.Edited.{Edited}
-use Rattle.edit_rules.specs.declared.Edited.TheVariants.{Done, Barred, Faulty}
+use Rattle.edit_rules.specs.Types.{Edited}
 use Rattle.edit_rules.specs.Edits.{Edit, Caller, is_create, legal_edit, legal_caller, is_context, judgement}
 use Rattle.edit_rules.proofs.Presence.{row-nine, settled-nine}
 use Rattle.edits.specs.Calls.{edited_number, allowed, owner_judged, owner_edit, principal_judged, principal_edit}
@@ -68,21 +68,21 @@ fault-zero TooShort = refl
 fault-zero RowHeld = refl
 fault-zero NotASet = refl
 
-pub nine-is-full : (r : Edited) → eqb (edited_number r) 9 ≡ true → r ≡ Faulty TableFull
-nine-is-full Done e = clash e refl
-nine-is-full (Barred c) e = clash e (cause-nine c)
-nine-is-full (Faulty f) e = ap Faulty (fault-nine f e)
+pub nine-is-full : (r : Edited) → eqb (edited_number r) 9 ≡ true → r ≡ Err (Faulty TableFull)
+nine-is-full (Ok tt) e = clash e refl
+nine-is-full (Err (Barred c)) e = clash e (cause-nine c)
+nine-is-full (Err (Faulty f)) e = ap (λ k. Err (Faulty k)) ((fault-nine f e))
 
-pub zero-is-done : (r : Edited) → eqb (edited_number r) 0 ≡ true → r ≡ Done
-zero-is-done Done e = refl
-zero-is-done (Barred c) e = clash e (cause-zero c)
-zero-is-done (Faulty f) e = clash e (fault-zero f)
+pub zero-is-done : (r : Edited) → eqb (edited_number r) 0 ≡ true → r ≡ (Ok tt)
+zero-is-done (Ok tt) e = refl
+zero-is-done (Err (Barred c)) e = clash e (cause-zero c)
+zero-is-done (Err (Faulty f)) e = clash e (fault-zero f)
 
 -- ---- 9 is told of creates alone, so that the condition on creates excludes 'table full' altogether
 
 allowed-nine : (d : Decision) (v : Edited) → eqb (edited_number v) 9 ≡ false → eqb (edited_number (allowed d v)) 9 ≡ false
-allowed-nine Allowed v h = h
-allowed-nine (Refused c) v h = cause-nine c
+allowed-nine (Ok tt) v h = h
+allowed-nine (Err c) v h = cause-nine c
 
 pub owner-nine : (ts : Tables) (e : Edit) → eqb (edited_number (owner_edit ts e).answer) 9 ≡ true → is_create e.operation ≡ true
 unfolding owner_edit owner_judged
@@ -129,7 +129,7 @@ module _ (after : Tables) (es : List Edit) where
       (λ a. split (lacks_room after es Mapping) (λ b. rw (a, b))
       (λ b. split (lacks_room after es Access) (λ d. rw (a, b, d)) (λ d. rw (a, b, d, h))))
 
-  pub room-done : ((t : Table) → lacks_room after es t ≡ false) → room after es ≡ answer_at Done 0
+  pub room-done : ((t : Table) → lacks_room after es t ≡ false) → room after es ≡ answer_at (Ok tt) 0
   unfolding room or_next
   room-done h = rw (h Context, h Mapping, h Access, h View)
 

@@ -3,9 +3,10 @@
 -- not show in its rows. Assumes nothing.
 use mathlib.Core.Path.{◌≡◌, ap, ◌∙◌}
 use mathlib.Core.Bool.{true, false, cond}
+use Rattle.std.specs.Prelude.{Err}
+use Rattle.answers.specs.declared.Refusal.TheVariants.{Faulty}
 use Rattle.answers.specs.declared.Fault.TheVariants.{OutOfRange}
 use Rattle.rows.specs.Tables.{Tables}
-use Rattle.edit_rules.specs.declared.Edited.TheVariants.{Faulty}
 use Rattle.edit_rules.specs.Edits.{Edit, legal_edit, faulted, settled}
 use Rattle.edits.specs.Calls.{owner_judged, owner_edit}
 use Rattle.calls.specs.Does.{edited}
@@ -16,7 +17,7 @@ use Rattle.isolation.proofs.Edits.{circle_of, fault-circle, settled-in, settled-
 module _ (w : Circle) (t : Tables) (e : Edit) where
   judged-circle : of_circle w e ≡ true → owner_judged (circle_rows w t) e ≡ owner_judged t e
   unfolding owner_judged
-  judged-circle h = ap (λ f. cond (legal_edit e) (faulted f) (Faulty OutOfRange)) (fault-circle w t e h false)
+  judged-circle h = ap (λ f. cond (legal_edit e) (faulted f) (Err (Faulty OutOfRange))) (fault-circle w t e h false)
 
   pub owner-shared : Orderly w t → of_circle w e ≡ true → finds_room (edited (owner_edit t e).answer) e ≡ true
       → owner_edit (circle_rows w t) e ≡ circle_of w (owner_edit t e)

@@ -5,12 +5,13 @@
 use mathlib.Core.Path.{◌≡◌, ap, ap₂, ◌∙◌}
 use mathlib.Core.Bool.{true, false, cond, not, ◌&&◌}
 use mathlib.Core.List.{[]}
+use Rattle.std.specs.Prelude.{Err}
+use Rattle.answers.specs.declared.Refusal.TheVariants.{Faulty}
 use Rattle.answers.specs.declared.Fault.TheVariants.{OutOfRange, ContextTable}
 use Rattle.numbers.proofs.Bools.{split, not-true}
 use Rattle.rows.specs.Tables.{Tables}
 use Rattle.decision_steps.specs.Request.{asked, write}
 use Rattle.instance_encode.specs.Instances.{instance}
-use Rattle.edit_rules.specs.declared.Edited.TheVariants.{Faulty}
 use Rattle.edit_rules.specs.Edits.{Edit, Caller, shape_of, index_of_edit, legal_edit, legal_caller, is_context, columns_written, judgement_at, judgement}
 use Rattle.edit_rules.specs.Edits.{faulted, settled}
 use Rattle.edit_rules.proofs.Refusals.{refusals-same}
@@ -33,7 +34,7 @@ module _ (w : Circle) (t : Tables) (c : Caller) (e : Edit) where
   pub judged-circle : Orderly w t → is_member w c ≡ true → of_circle w e ≡ true → principal_judged (circle_rows w t) c e ≡ principal_judged t c e
   unfolding principal_judged
   judged-circle i m h =
-      ap₂ (λ d f. cond (legal_caller c && legal_edit e) (cond (is_context e.table) (Faulty ContextTable) (allowed d (faulted f))) (Faulty OutOfRange))
+      ap₂ (λ d f. cond (legal_caller c && legal_edit e) (cond (is_context e.table) (Err (Faulty ContextTable)) (allowed d (faulted f))) (Err (Faulty OutOfRange)))
       (judgement-circle i m) (fault-circle w t e h true)
 
   pub member-shared : Orderly w t → is_member w c ≡ true → of_circle w e ≡ true → finds_room (edited (principal_edit t c e).answer) e ≡ true

@@ -12,6 +12,8 @@ use native.Mathlib.Omega.{arith}
 use lib.Dec.{eqb, ltb}
 use lib.ListN.{length}
 use borrow.Author.Tests.{ltb-false, le-ltb}
+use Rattle.std.specs.Prelude.{Ok, Err}
+use Rattle.answers.specs.declared.Refusal.TheVariants.{Barred, Faulty}
 use Rattle.numbers.specs.Lists.{every, any}
 use Rattle.numbers.proofs.Bools.{split, clash, not-true, is_false, and_left, and_right, and-false-or, and-false-left, and-false-right, or-true, cond_map}
 use Rattle.numbers.proofs.Bools.{or_left, or-false-left, or-false-right}
@@ -19,8 +21,7 @@ use Rattle.numbers.proofs.Keeps.{every-imp, every-both, any-every}
 use Rattle.rows.specs.declared.Table.{Table}
 use Rattle.rows.specs.Rows.{limit}
 use Rattle.rows.specs.Tables.{Tables}
-use Rattle.edit_rules.specs.declared.Edited.{Edited}
-use Rattle.edit_rules.specs.declared.Edited.TheVariants.{Done, Barred, Faulty}
+use Rattle.edit_rules.specs.Types.{Edited}
 use Rattle.edit_rules.specs.TableRows.{rows_of}
 use Rattle.edit_rules.specs.Edits.{Edit, Caller, is_create, legal_caller, applied}
 use Rattle.edits.specs.Calls.{edited_number, principal_judged}
@@ -35,9 +36,9 @@ use Rattle.isolation.proofs.PrincipalEdits.{judged-circle}
 use Rattle.isolation.proofs.Numbers.{creates, lacks_room, lacks-creates, room-lacks, room-done}
 
 done-zero : (r : Edited) → is_done r ≡ true → eqb (edited_number r) 0 ≡ true
-done-zero Done d = refl
-done-zero (Barred c) d = clash d refl
-done-zero (Faulty f) d = clash d refl
+done-zero (Ok tt) d = refl
+done-zero (Err (Barred c)) d = clash d refl
+done-zero (Err (Faulty f)) d = clash d refl
 
 -- what each create passes, a set with a create passes
 creates-pass : (b : Bool) (es : List Edit) → every (λ e. implies (is_create e.operation) b) es ≡ true → creates es ≡ true → b ≡ true

@@ -6,11 +6,11 @@ use mathlib.Core.Option.{Option, none, some, bind, Option-elim}
 use Prim.Native.Nat.{ℕ, suc, ◌+◌, ◌*◌, ◌≤◌}
 use native.Mathlib.Omega.{arith}
 use lib.ListN.{length}
+use Rattle.std.specs.Prelude.{Some, None}
 use Rattle.numbers.specs.Laid.{laid}
 use Rattle.numbers.proofs.Laid.{laid_nil}
 use Rattle.edit_rules.specs.declared.Operation.{Operation}
-use Rattle.text_words.specs.declared.Filled.{Filled}
-use Rattle.text_words.specs.declared.Filled.TheVariants.{Upto, Malformed}
+use Rattle.text_words.specs.Types.{Filled}
 use Rattle.text_words.specs.Words.{between, words_from, Fills}
 use Rattle.text_words.proofs.WordsFrom.{WordAt, word-length}
 use Rattle.text_fields.specs.RowWords.{Roomy}
@@ -18,7 +18,7 @@ use Rattle.text_rows.specs.EntryWords.{entry_said, entry_front, Enters}
 use Rattle.text_rows.proofs.EntryWords.{unlaid}
 use Rattle.line_fields.specs.declared.Kind.{Kind}
 use Rattle.line_fields.specs.declared.Kind.TheVariants.{Number, Name, Identifier, Key, Edit}
-use Rattle.text_rows.specs.declared.Found.{Found}
+use Rattle.text_rows.specs.Types.{Found}
 use Rattle.line_fields.specs.Kinds.{one_word, operation_named, entered, edited, edit_said, kind_said}
 use Rattle.line_fields.specs.Slots.{in_parts, side, word_found, Lent, Finds}
 use Rattle.line_fields.specs.Buffers.{Buffers, buffers, word_front, edit_front, kind_front, laid_in}
@@ -68,8 +68,8 @@ module _ {at : ℕ} {line : List ℕ} {end : ℕ} (w : WordAt at line end) where
   word-finds : (says : List ℕ → Option (List ℕ)) (filled : Filled) {most : ℕ} (found out : List ℕ)
       → Fills filled (4 * at) most found out (says (between at end line)) → most ≤ suc (length (between at end line))
       → Finds (word_found filled (4 * at) (end + 1)) (4 * at) at line (one_word says (words_from at line))
-  word-finds says Malformed found out f m = rw (w.is, f.is)
-  word-finds says (Upto n) found out f m = record {
+  word-finds says None found out f m = rw (w.is, f.is)
+  word-finds says (Some n) found out f m = record {
     of = f.of;
     is = rw (w.is, f.is);
     begins = refl;
@@ -80,9 +80,9 @@ module _ {at : ℕ} {line : List ℕ} {end : ℕ} (w : WordAt at line end) where
 
   word-lays : (says : List ℕ → Option (List ℕ)) (filled : Filled) (most : ℕ) (found out : List ℕ)
       → Fills filled (4 * at) most found out (says (between at end line)) → out ≡ laid (4 * at) (word_front says (words_from at line)) found
-  word-lays says Malformed most found out f =
+  word-lays says None most found out f =
       let e : word_front says (words_from at line) ≡ [] = rw (w.is, f.is) in f.kept ∙ unlaid (4 * at) found e
-  word-lays says (Upto n) most found out f =
+  word-lays says (Some n) most found out f =
       let e : word_front says (words_from at line) ≡ f.of = rw (w.is, f.is) in f.lays ∙ ap (λ u. laid (4 * at) u found) (sym e)
 
   -- read into the buffer of its side, the word is found and laid there
@@ -103,8 +103,8 @@ module _ {at : ℕ} {line : List ℕ} {end : ℕ} (w : WordAt at line end) where
 
 pub entry-finds : (o : Operation) (r : Found) (from at : ℕ) (line : List ℕ)
     → Enters r o from at line (entry_said o (words_from at line)) → Finds r from at line (entered o (entry_said o (words_from at line)))
-entry-finds o Found.Malformed from at line n = ap (entered o) n
-entry-finds o (Found.At s next) from at line e = record {
+entry-finds o None from at line n = ap (entered o) n
+entry-finds o (Some (s, next)) from at line e = record {
   of = e.of;
   is = rw (e.is, e.operation_is);
   begins = e.begins;
@@ -137,8 +137,8 @@ module _ (w : List ℕ) (ws : List (List ℕ)) where
 module _ {at : ℕ} {line : List ℕ} {end : ℕ} (w : WordAt at line end) where
   pub edit-finds : (r : Found) (from : ℕ) → Finds r from (end + 1) line (edited (between at end line) (words_from (end + 1) line))
       → Finds r from at line (edit_said (words_from at line))
-  edit-finds Found.Malformed from n = rw w.is n
-  edit-finds (Found.At s next) from f = record {
+  edit-finds None from n = rw w.is n
+  edit-finds (Some (s, next)) from f = record {
     of = f.of;
     is = rw w.is f.is;
     begins = f.begins;

@@ -1,12 +1,13 @@
 -- What the code reads of the fields of a line: for each a slot, which says what part of a lent buffer holds it. Assumes nothing.
 use Rattle.std.specs.Prelude.{◌≡◌, Bool, true, false, List, ℕ, suc, ◌+◌, ◌*◌, ◌≤◌, ◌<◌, length, take, get_or, replicate}
 use Rattle.std.proofs.Math.Option.{Option, none, some}
+use Rattle.std.specs.Prelude.{Some, None}
 use Rattle.edit_rules.specs.declared.Operation.TheVariants.{Create}
 use Rattle.rows.specs.declared.Table.TheVariants.{Context}
 use Rattle.text_words.specs.Words.{longest, between, words_from}
-use Rattle.text_words.specs.declared.Filled.{Filled}
+use Rattle.text_words.specs.Types.{Filled}
 use Rattle.text_rows.specs.declared.Slot.{Slot}
-use Rattle.text_rows.specs.declared.Found.{Found}
+use Rattle.text_rows.specs.Types.{Found}
 use Rattle.line_fields.specs.declared.Kind.{Kind}
 use Rattle.line_fields.specs.declared.Kind.TheVariants.{Number, Name, Identifier, Key, Edit}
 use Rattle.line_fields.specs.declared.Fields.{Fields}
@@ -84,13 +85,13 @@ pub record Lies (s : Slot) (next from at : ℕ) (line : List ℕ) (said : Option
   pub next_in : next ≤ suc (length line)
 
 abbrev pub Finds : Found → (from at : ℕ) (line : List ℕ) → Option Taken → Type 0
-Finds (Found.At s next) from at line said = Lies s next from at line said
-Finds Found.Malformed from at line said = said ≡ none
+Finds (Some (s, next)) from at line said = Lies s next from at line said
+Finds None from at line said = said ≡ none
 
 -- what one word was read into
 abbrev pub word_found : Filled → (from next : ℕ) → Found
-word_found (Filled.Upto end) from next = Found.At (plain_slot from end) next
-word_found Filled.Malformed from next = Found.Malformed
+word_found (Some end) from next = Some ((plain_slot from end), next)
+word_found None from next = None
 
 -- ---- the fields of a line
 

@@ -13,8 +13,8 @@ ghost use Rattle.line_fields.specs.Buffers.{buffers, edit_front, kind_front, lai
 
 use edit_rules::Operation;
 use rows::Table;
-use text_rows::{Found, Slot};
-use text_words::{Filled, LONGEST_LINE, Number, Word};
+use text_rows::Slot;
+use text_words::LONGEST_LINE;
 
 // The most fields of a line.
 pub const MOST_FIELDS: usize = 6;
@@ -35,25 +35,21 @@ pub enum Kind {
 // ---- a field: one whose first word begins at `at` in the line lies in its buffer from `4 * at` on, behind all that words before it make
 
 // The number that a word says, into `out` at `from`.
-fn number(word: &[u8], out: &mut [u32], from: usize) -> Filled
+fn number(word: &[u8], out: &mut [u32], from: usize) -> Option<usize>
     requires { from < length out.old }
     ensures { Fills result from 1 out.old out.new (Kinds·number word.now) }
 {
-    let Number::Of(x) = text_words::decimal(word) else {
-        return Filled::Malformed;
-    };
+    let x = text_words::decimal(word)?;
     out[from] = x;
-    Filled::Upto(from + 1)
+    Some(from + 1)
 }
 
 // The field that one word says.
-fn one_word(filled: Filled, from: usize, next: usize) -> Found
+fn one_word(filled: Option<usize>, from: usize, next: usize) -> Option<(Slot, usize)>
     ensures { result ≡ word_found filled from next }
 {
-    let Filled::Upto(end) = filled else {
-        return Found::Malformed;
-    };
-    Found::At(
+    let end = filled?;
+    Some((
         Slot {
             operation: Operation::Create,
             table: Table::Context,
@@ -61,11 +57,11 @@ fn one_word(filled: Filled, from: usize, next: usize) -> Found
             end,
         },
         next,
-    )
+    ))
 }
 
 // What the operation that a word names is handed, from the word that begins at `at` on, in `bytes` from `from` on.
-fn edit(word: &[u8], line: &[u8], at: usize, bytes: &mut [u8], from: usize) -> Found
+fn edit(word: &[u8], line: &[u8], at: usize, bytes: &mut [u8], from: usize) -> Option<(Slot, usize)>
     requires { Roomy line.now at bytes.old from }
     ensures finds { Finds result from at line.now (edited word.now (words_from at line.now)) }
     ensures lays { bytes.new ≡ laid from (edit_front word.now (words_from at line.now)) bytes.old }
@@ -74,23 +70,25 @@ fn edit(word: &[u8], line: &[u8], at: usize, bytes: &mut [u8], from: usize) -> F
         0 => Operation::Create,
         1 => Operation::Change,
         2 => Operation::Remove,
-        _ => {
-            return Found::Malformed;
-        }
+        _ => return None,
     };
     text_rows::entry(operation, line, at, bytes, from)
 }
 
 // The field of a kind that the words from a place on say.
-pub fn field(k: Kind, line: &[u8], at: usize, bytes: &mut [u8], parts: &mut [u32]) -> Found
+pub fn field(
+    k: Kind,
+    line: &[u8],
+    at: usize,
+    bytes: &mut [u8],
+    parts: &mut [u32],
+) -> Option<(Slot, usize)>
     requires { Lent line.now at bytes.old parts.old }
     ensures finds { Finds result (4 * at) at line.now (kind_said k (words_from at line.now)) }
     ensures lays { buffers bytes.new parts.new
         ≡ laid_in (in_parts k) (4 * at) (kind_front k (words_from at line.now)) (buffers bytes.old parts.old) }
 {
-    let Word::To(end) = text_words::word_at(line, at) else {
-        return Found::Malformed;
-    };
+    let end = text_words::word_at(line, at)?;
     let word = &line[at..end];
     let from = 4 * at;
     let next = end + 1;
@@ -142,9 +140,8 @@ pub fn read(
 {
     let mut slots = no_slots();
     let mut next = at;
-    let mut i = 0;
-    while i < n {
-        let Found::At(s, behind) = field(kinds[i], line, next, bytes, parts) else {
+    for i in 0..n {
+        let Some((s, behind)) = field(kinds[i], line, next, bytes, parts) else {
             return Fields {
                 whole: false,
                 slots,
@@ -152,7 +149,6 @@ pub fn read(
         };
         slots[i] = s;
         next = behind;
-        i += 1;
     }
     // no word is over
     let whole = line.len() < next;

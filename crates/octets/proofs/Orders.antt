@@ -18,8 +18,10 @@ use Rattle.numbers.specs.BigEndian.{quad, number, Octets}
 use Rattle.numbers.proofs.BigEndian.{octets-drop}
 use Rattle.octets.proofs.Sames.{take_whole}
 use Rattle.octets.specs.Order.{order}
-use Rattle.octets.specs.declared.Order.{Order}
-use Rattle.octets.specs.declared.Order.TheVariants.{Below, Equal, Above}
+use Rattle.std.specs.Ordering.{nat_cmp, MatchOrdering}
+use Rattle.std.specs.Cmp.{nat_cmp_is}
+use Rattle.std.specs.declared.cmp.Ordering.{Ordering}
+use Rattle.std.specs.declared.cmp.Ordering.TheVariants.{Less, Equal, Greater}
 
 not-before-nothing : (a : List ℕ) → before a [] ≡ false
 unfolding before
@@ -46,27 +48,44 @@ order-refl a = rw (before-irrefl a, same_refl a)
 
 -- behind fronts that are the same: an octet that differs decides, or the end of a list
 module _ (a b : List ℕ) (i : ℕ) (t : take i a ≡ take i b) where
-  pub order_lt : i < length a → i < length b → get_or a i 0 < get_or b i 0 → order a b ≡ Below
+  order_lt : i < length a → i < length b → get_or a i 0 < get_or b i 0 → order a b ≡ Less
   unfolding order before
   order_lt ha hb h = order-drop a b i t ∙ rw (drop-cons a i 0, drop-cons b i 0, lt-ltb _ _ h)
 
-  pub order-gt : i < length a → i < length b → get_or b i 0 < get_or a i 0 → order a b ≡ Above
+  order-gt : i < length a → i < length b → get_or b i 0 < get_or a i 0 → order a b ≡ Greater
   unfolding order before same
   order-gt ha hb h =
       let l : get_or b i 0 ≤ get_or a i 0 = omega arith in
       let e = ne_eqb (get_or a i 0) (get_or b i 0) (λ q. omega arith) in
       order-drop a b i t ∙ rw (drop-cons a i 0, drop-cons b i 0, le-ltb _ _ l, e)
 
-  pub order-shorter : length a ≤ i → i < length b → order a b ≡ Below
+  order-shorter : length a ≤ i → i < length b → order a b ≡ Less
   unfolding order before
   order-shorter ha hb = order-drop a b i t ∙ rw (drop_of_length-le a ha, drop-cons b i 0)
 
-  pub order-longer : i < length a → length b ≤ i → order a b ≡ Above
+  order-longer : i < length a → length b ≤ i → order a b ≡ Greater
   unfolding order before same
   order-longer ha hb = order-drop a b i t ∙ rw (drop-cons a i 0, drop_of_length-le b hb)
 
-  pub order-end : length a ≤ i → length b ≤ i → order a b ≡ Equal
+  order-end : length a ≤ i → length b ≤ i → order a b ≡ Equal
   order-end ha hb = rw (take_whole a b i ha hb t) (order-refl b)
+
+  -- so `order` answers as the numbers there stand to each other, or as the lengths do
+  pub order-differ : i < length a → i < length b → (get_or a i 0 ≡ get_or b i 0 → ⊥) → nat_cmp (get_or a i 0) (get_or b i 0) ≡ order a b
+  order-differ ha hb n = sym (nat_cmp_is _ _ _ (go (tri (get_or a i 0) (get_or b i 0))))
+    where
+      go : Tri (get_or a i 0) (get_or b i 0) → MatchOrdering (order a b) (get_or a i 0 < get_or b i 0) (get_or a i 0 ≡ get_or b i 0) (get_or b i 0 < get_or a i 0)
+      go (below _ _ h) = rw (order_lt ha hb h) h
+      go (above _ _ h) = rw (order-gt ha hb h) h
+      go (equal _ _ h) = absurd (n h)
+
+  pub order-ends : min (length a) (length b) ≡ i → nat_cmp (length a) (length b) ≡ order a b
+  order-ends e = sym (nat_cmp_is _ _ _ (go (tri (length a) (length b))))
+    where
+      go : Tri (length a) (length b) → MatchOrdering (order a b) (length a < length b) (length a ≡ length b) (length b < length a)
+      go (below _ _ h) = rw (order-shorter (omega arith) (omega arith)) h
+      go (above _ _ h) = rw (order-longer (omega arith) (omega arith)) h
+      go (equal _ _ h) = rw (order-end (omega arith) (omega arith)) h
 
   -- the same of `before` alone
   before-drop : before a b ≡ before (drop i a) (drop i b)
@@ -133,26 +152,26 @@ before-four a b i t ha hb oa ob n =
     ∙ before-quads _ _ _ _ _ _ _ _ (drop 4 (drop i a)) (drop 4 (drop i b)) (ka 1) (ka 2) (ka 3) (kb 1) (kb 2) (kb 3) n
 
 -- what each answer says
-abbrev answer : Bool → Bool → Order
-answer p q = cond p Below (cond q Equal Above)
+abbrev answer : Bool → Bool → Ordering
+answer p q = cond p Less (cond q Equal Greater)
 
-answer-below : (p q : Bool) → answer p q ≡ Below → p ≡ true
+answer-below : (p q : Bool) → answer p q ≡ Less → p ≡ true
 answer-below true q e = refl
 answer-below false true e = cc
 answer-below false false e = cc
 
 answer-equal : (p q : Bool) → answer p q ≡ Equal → q ≡ true
-answer-equal true q e = let z : Below ≡ Equal = e in cc
+answer-equal true q e = let z : Less ≡ Equal = e in cc
 answer-equal false true e = refl
 answer-equal false false e = cc
 
-answer-above : (p q : Bool) → answer p q ≡ Above → (q ≡ false) × (p ≡ false)
-answer-above true q e = let z : Below ≡ Above = e in (cc, cc)
+answer-above : (p q : Bool) → answer p q ≡ Greater → (q ≡ false) × (p ≡ false)
+answer-above true q e = let z : Less ≡ Greater = e in (cc, cc)
 answer-above false true e = (cc, refl)
 answer-above false false e = (refl, refl)
 
 module _ (a b : List ℕ) where
-  pub order_below : order a b ≡ Below → before a b ≡ true
+  pub order_below : order a b ≡ Less → before a b ≡ true
   unfolding order
   order_below e = answer-below (before a b) (same a b) e
 
@@ -160,6 +179,6 @@ module _ (a b : List ℕ) where
   unfolding order
   order-equal e = same_true a b (answer-equal (before a b) (same a b) e)
 
-  pub order-above : order a b ≡ Above → before b a ≡ true
+  pub order-above : order a b ≡ Greater → before b a ≡ true
   unfolding order
   order-above e = let n = answer-above (before a b) (same a b) e in before-total a b n.0 n.1

@@ -6,17 +6,18 @@ ghost use Rattle.numbers.specs.Order.{same, before};
 ghost use Rattle.octets.specs.Same.{same_four, same_eight};
 ghost use Rattle.octets.specs.Order.{order};
 
-// Whether the four octets at `i` are the same, which is where the numbers that they say are. Joined by `&`, they become one load and one
-// comparison.
+use std::cmp::Ordering;
+
+// Whether the four octets at `i` are the same, which is where the numbers that they say are: one load and one comparison.
 pub fn same_four(a: &[u8], b: &[u8], i: usize) -> bool
     requires first { i + 4 ≤ length a.now }
     requires second { i + 4 ≤ length b.now }
     ensures { result ≡ same_four a.now b.now i }
 {
-    (a[i] == b[i]) & (a[i + 1] == b[i + 1]) & (a[i + 2] == b[i + 2]) & (a[i + 3] == b[i + 3])
+    numbers::quad_at(a, i) == numbers::quad_at(b, i)
 }
 
-// Whether the eight octets at `i` are the same, by one comparison likewise.
+// Whether the eight octets at `i` are the same. Joined by `&`, the two fours become one load and one comparison.
 fn same_eight(a: &[u8], b: &[u8], i: usize) -> bool
     requires first { i + 8 ≤ length a.now }
     requires second { i + 8 ≤ length b.now }
@@ -26,6 +27,7 @@ fn same_eight(a: &[u8], b: &[u8], i: usize) -> bool
 }
 
 // A number of octets, at most `n`, that are the same in front, where the first `from` are known to be: 8 a turn.
+// By hand: a turn is made only while 8 are left, which no range with a step says.
 pub fn skip(a: &[u8], b: &[u8], from: usize, n: usize) -> usize
     requires begun { from ≤ n }
     requires first { n ≤ length a.now }
@@ -50,12 +52,10 @@ fn same_front(a: &[u8], b: &[u8], n: usize) -> bool
     requires second { length a.now ≡ length b.now }
     ensures { result ≡ same (take n a.now) (take n b.now) }
 {
-    let mut i = skip(a, b, 0, a.len());
-    while i < n {
+    for i in skip(a, b, 0, a.len())..n {
         if a[i] != b[i] {
             return false;
         }
-        i += 1;
     }
     true
 }
@@ -80,15 +80,8 @@ pub fn are_same(a: &[u8], b: &[u8]) -> bool
 
 // ---- order
 
-// How one list of octets stands to another.
-#[derive(Clone, Copy)]
-pub enum Order {
-    Below,
-    Equal,
-    Above,
-}
-
 // A number of octets, at most `n`, that are the same in front: 32 a turn.
+// By hand beside `skip`: the four tests are joined by `&`, where a const parameter for 8 and 32 would put a loop into the turn.
 fn skip_long(a: &[u8], b: &[u8], n: usize) -> usize
     requires first { n ≤ length a.now }
     requires second { n ≤ length b.now }
@@ -114,7 +107,7 @@ fn skip_long(a: &[u8], b: &[u8], n: usize) -> usize
 pub fn ascends(a: &[u8], b: &[u8]) -> bool
     ensures { result ≡ before a.now b.now }
 {
-    let n = numbers::least(a.len(), b.len());
+    let n = a.len().min(b.len());
     let mut i = skip(a, b, skip_long(a, b, n), n);
     if 4 <= n - i {
         let x = numbers::quad_at(a, i);
@@ -124,39 +117,23 @@ pub fn ascends(a: &[u8], b: &[u8]) -> bool
         }
         i += 4;
     }
-    while i < n {
-        let x = a[i];
-        let y = b[i];
-        if x != y {
-            return x < y;
+    for j in i..n {
+        if a[j] != b[j] {
+            return a[j] < b[j];
         }
-        i += 1;
     }
     a.len() < b.len()
 }
 
 // How `a` stands to `b`.
-pub fn compare(a: &[u8], b: &[u8]) -> Order
+pub fn compare(a: &[u8], b: &[u8]) -> Ordering
     ensures { result ≡ order a.now b.now }
 {
-    let n = numbers::least(a.len(), b.len());
-    let mut i = skip(a, b, 0, n);
-    while i < a.len() {
-        if b.len() <= i {
-            return Order::Above;
+    let n = a.len().min(b.len());
+    for i in skip(a, b, 0, n)..n {
+        if a[i] != b[i] {
+            return a[i].cmp(&b[i]);
         }
-        let x = a[i];
-        let y = b[i];
-        if x < y {
-            return Order::Below;
-        }
-        if y < x {
-            return Order::Above;
-        }
-        i += 1;
     }
-    if a.len() < b.len() {
-        return Order::Below;
-    }
-    Order::Equal
+    a.len().cmp(&b.len())
 }

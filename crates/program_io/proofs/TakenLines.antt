@@ -1,11 +1,10 @@
--- What the calls of a desk do to the lines taken. A read piece is what is to come and then what is left; a line that goes on is begun with what the piece
--- had of it, and one that a newline ends is taken; at the input's end what is begun is the last line. Assumes nothing.
+-- What the calls of a desk do to the lines taken. A line that goes on is begun with what the piece had of it, and one that a newline ends is taken; at
+-- the input's end what is begun is the last line. Assumes nothing.
 use mathlib.Core.Path.{◌≡◌, refl, sym, ap, ◌∙◌}
 use mathlib.Core.Bool.{Bool, true, false}
-use mathlib.Core.Logic.{◌⊎◌, ⊎_elim, inl, inr}
 use Rattle.std.specs.Prelude.{Option}
 use mathlib.Core.List.{List, [], ◌∷◌, ◌++◌, append_assoc, append-nil}
-use Prim.Native.Nat.{ℕ, zero, suc, ◌+◌, ◌-◌, ◌≤◌, ◌<◌}
+use Prim.Native.Nat.{ℕ, suc, ◌+◌, ◌-◌, ◌≤◌, ◌<◌}
 use native.Mathlib.Omega.{arith}
 use lib.ListN.{length, take, drop, length-append, length-take}
 use lib.Seq.{drop-drop, take-length, length-take-le, slice_empty, length-slice}
@@ -16,9 +15,8 @@ use Rattle.text_words.proofs.Words.{run-most}
 use Rattle.program_io.specs.declared.Continued.{Continued}
 use Rattle.program_io.specs.declared.Desk.{Desk}
 use Rattle.program_io.specs.Lines.{lines_of, keep, kept, goes_on, Continues}
-use Rattle.std.specs.Io.KnownBytes.{IsAtEnd}
-use Rattle.program_io.specs.Outside.{Outside, outside, InputFailed}
-use Rattle.program_io.specs.Desk.{OutputFailed, most_reads, Ready, left, Taken, AllTaken, Writes, Reads, with_piece, Refills, NextLine, LastLine}
+use Rattle.program_io.specs.Outside.{Outside, outside}
+use Rattle.program_io.specs.Desk.{OutputFailed, Ready, left, Taken, AllTaken, Writes, NextLine, LastLine}
 use Rattle.program_io.proofs.Lines.{one-line-nil, one-line-append, lines_cut, lines_none, lines-last, kept-one, kept-none, keep-on}
 
 -- ---- a text is written
@@ -63,110 +61,9 @@ module _ {held holds : Option (List ℕ)} {d r : Desk} {more : List ℕ} (w : Wr
   pub ready-written : {piece : List ℕ} → Ready d piece → Ready r piece
   ready-written {piece} h = rw w.same (record { piece_length = h.piece_length; at_in = h.at_in; end_in = h.end_in; counts = h.counts })
 
--- ---- a piece is read
-
-nat-cases : {A : Type 0} (n : ℕ) → (n ≡ 0 → A) → (0 < n → A) → A
-nat-cases zero f g = f refl
-nat-cases (suc n) f g = g (omega arith)
-
 -- of a piece that is used up nothing is left
 left-none : (d : Desk) (piece : List ℕ) → d.at ≡ d.end → left d piece ≡ []
 left-none d piece e = rw e (slice_empty d.end piece)
-
-module _ {had has : Option (List ℕ)} {d r : Desk} {piece piece' : List ℕ} (ready : Ready d piece) (used : d.end ≤ d.at) (s : Reads had has d r piece')
-    (some : 0 < d.reads) (size : length piece' ≡ length piece) where
-  used_up : d.at ≡ d.end
-  used_up = omega (arith, ready.at_in)
-
-  -- what was to come is the piece and then what is to come
-  to-come : (later : List ℕ) → (r.reads ≡ 0 → later ≡ []) → d.reads ≡ 0 → take r.end piece' ++ later ≡ []
-  to-come later h z = absurd (omega arith)
-
-  same-writable : d.writable ≡ r.writable
-  same-writable = sym (ap (λ x. x.writable) s.same)
-
-  -- how much is read with it
-  long : (input : List ℕ) → length (input ++ take r.end piece') ≡ length input + r.end
-  long input = length-append input (take r.end piece') ∙ ap (λ n. length input + n) (length-take-le r.end piece' s.end_in)
-
-  -- a read that brings something is counted, and one that brings nothing is at the input's end
-  module _ (input : List ℕ) (counted : most_reads ≤ d.reads + length input) where
-    counted-read : 0 < r.reads → most_reads ≤ r.reads + length (input ++ take r.end piece')
-    counted-read l = nat-cases r.end (λ z. absurd (omega (arith, s.ends z))) (λ n. omega (arith, s.fewer n, long input))
-
-    all-read : r.reads ≡ 0 → InputFailed ⊎ (length (input ++ take r.end piece') < most_reads → IsAtEnd has)
-    all-read z =
-        nat-cases r.end (λ e. ⊎_elim inl (λ a. inr (λ l. a)) (s.at_end (omega (arith, size, ready.piece_length)) e))
-        (λ n. inr (λ l. absurd (omega (arith, s.fewer n, long input))))
-
-  taken-read : {from : Outside} {held : Option (List ℕ)} {line text : List ℕ} {lines : List (List ℕ)} → Taken from (outside had held) d piece line text lines
-      → Taken from (outside has held) r piece' line text lines
-  taken-read {from} {held} {line} {text} {lines} t = record {
-    closed = λ e. t.closed (same-writable ∙ e);
-    input = t.input ++ take r.end piece';
-    moved = λ o. s.moves (t.moved (same-writable ∙ o));
-    number_is = ap (λ x. x.number) s.same ∙ t.number_is;
-    begun = t.begun;
-    one_line = t.one_line;
-    keeps = t.keeps ∙ sym (ap (λ x. take x.begun line) s.same);
-    cut = λ o later h.
-        ap (λ u. kept (lines_of u)) (append_assoc t.input (take r.end piece') later)
-        ∙ t.cut (same-writable ∙ o) (take r.end piece' ++ later) (to-come later h)
-        ∙ ap (λ v. lines ++ kept (lines_of (t.begun ++ (v ++ (take r.end piece' ++ later))))) (left-none d piece used_up)
-        ∙ ap (λ v. lines ++ kept (lines_of (t.begun ++ (v ++ later)))) (sym (ap (λ x. left x piece') s.same));
-    counted = λ o. counted-read t.input (t.counted (same-writable ∙ o) some);
-    read_all = λ o. all-read t.input (t.counted (same-writable ∙ o) some);
-  }
-
-  -- a read that brings nothing was the last
-  pub refill-read : Refills had has d r piece piece'
-  refill-read =
-      let a : r.at ≡ 0 = ap (λ x. x.at) s.same in
-      let n : r.number ≡ d.number = ap (λ x. x.number) s.same in
-      record {
-        taken = taken-read;
-        ready = record {
-          piece_length = size ∙ ready.piece_length;
-          at_in = omega arith;
-          end_in = s.end_in;
-          counts = by_end (λ z. omega (arith, s.ends z, ready.counts)) (λ l. omega (arith, s.fewer l, ready.counts, s.end_in, size, ready.piece_length));
-        };
-        no_more = by_end (λ z. omega (arith, s.ends z)) (λ l. omega (arith, s.fewer l, s.end_in, size, ready.piece_length));
-        used_up = λ o e. s.ends (omega arith);
-        same_begun = ap (λ x. x.begun) s.same;
-      }
-    where
-      by_end : {A : Type 0} → (r.end ≡ 0 → A) → (0 < r.end → A) → A
-      by_end {A} f g = nat-cases r.end f g
-
--- ---- nothing to read, or nobody to write to
-
-module _ {d : Desk} {piece : List ℕ} (ready : Ready d piece) (still : d.writable ≡ true → (d.end ≤ d.at) × (d.reads ≡ 0)) where
-  abbrev stopped : Desk
-  stopped = with_piece d.reads d.end d.end d
-
-  pub refill-still : {had : Option (List ℕ)} → Refills had had d stopped piece piece
-  refill-still = record {
-    taken = λ {from} {held} {line} {text} {lines} t. record {
-      closed = t.closed;
-      input = t.input;
-      moved = t.moved;
-      number_is = t.number_is;
-      begun = t.begun;
-      one_line = t.one_line;
-      keeps = t.keeps;
-      cut = λ o later h.
-          t.cut o later h
-          ∙ ap (λ v. lines ++ kept (lines_of (t.begun ++ (v ++ later))))
-          (left-none d piece (omega (arith, (still o).0, ready.at_in)) ∙ sym (left-none stopped piece refl));
-      counted = t.counted;
-      read_all = t.read_all;
-    };
-    ready = record { piece_length = ready.piece_length; at_in = omega arith; end_in = ready.end_in; counts = omega (arith, ready.counts) };
-    no_more = omega arith;
-    used_up = λ o e. (still o).1;
-    same_begun = refl;
-  }
 
 -- ---- a line, or what the piece has of it
 

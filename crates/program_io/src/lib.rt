@@ -37,7 +37,7 @@ fn say(rt: &impl Eprint, what: &str, error: io::Error) {
 pub const FILE_ROOM: usize = ROOM + 1;
 
 // The front of a file, `len` octets of it.
-#[derive(Clone, Copy)]
+#[derive(Clone, Copy, PartialEq, Eq, Debug)]
 pub struct File {
     pub octets: [u8; FILE_ROOM],
     pub len: usize,
@@ -63,6 +63,7 @@ fn read_file<F: Read>(rt: &impl Eprint, file: &mut F, octets: &mut [u8]) -> usiz
     ensures reads { ReadsFile (F.remaining file.old) (length octets.old) (take result octets.new) }
 {
     let mut len = 0;
+    // By hand: a read says how much it reads, so that no range has the places.
     while len < octets.len() {
         let n = read_some(rt, file, &mut octets[len..], "tables.bin");
         if n == 0 {
@@ -113,7 +114,7 @@ const MOST_READS: u64 = 140737488355328;
 
 // The desk: the reads that may still be made, none behind the input's end; whether standard output takes what is written; where the rest of the piece
 // lies; how many lines are taken; how much is there of a line that is begun; and whether a line was found, and its length.
-#[derive(Clone, Copy)]
+#[derive(Clone, Copy, PartialEq, Eq, Debug)]
 pub struct Desk {
     pub reads: u64,
     pub writable: bool,
@@ -193,7 +194,7 @@ pub fn refill<R: Read>(rt: &impl Eprint, d: Desk, input: &mut R, piece: &mut [u8
 // ---- lines
 
 // How much of a line is begun, and where the piece was left: at a newline, or at its end.
-#[derive(Clone, Copy)]
+#[derive(Clone, Copy, PartialEq, Eq, Debug)]
 pub struct Continued {
     pub begun: usize,
     pub end: usize,
@@ -206,7 +207,7 @@ fn continue_line(line: &mut [u8], begun: usize, piece: &[u8], at: usize) -> Cont
     ensures { Continues result line.old line.new begun piece.now at }
 {
     let end = text_words::end_of(piece, at, b'\n');
-    let n = numbers::least(end - at, line.len() - begun);
+    let n = (end - at).min(line.len() - begun);
     let to = at + n;
     splice::copy_in(line, begun, &piece[at..to]);
     Continued {

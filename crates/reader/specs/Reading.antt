@@ -1,22 +1,18 @@
 -- What a reader finds at a place of the sub-identifiers, and where it stands afterwards. Assumes nothing.
 use Rattle.std.specs.Prelude.{◌≡◌, cond, List, ℕ, ◌+◌, ◌-◌, ltb, length, get_or}
 use Rattle.std.specs.Borrow.{Bor}
-use Rattle.reader.specs.declared.Part.{Part}
-use Rattle.reader.specs.declared.Part.TheVariants.{Of, End}
-use Rattle.reader.specs.declared.Step.{Step}
+use Rattle.std.specs.Prelude.{Some, None}
+use Rattle.reader.specs.Types.{Part}
 use Rattle.reader.specs.declared.Read.{Read}
 use Rattle.reader.specs.declared.Reader.{Reader}
 
 -- the part at a place, where there is one
 abbrev pub part_at : List ℕ → ℕ → Part
-part_at parts at = cond (ltb at (length parts)) (Of (get_or parts at 0)) End
+part_at parts at = cond (ltb at (length parts)) (Some (get_or parts at 0)) None
 
 -- the place behind it; at the end there is no further place
 abbrev pub behind : List ℕ → ℕ → ℕ
 behind parts at = cond (ltb at (length parts)) (at + 1) at
-
-abbrev pub step_at : List ℕ → ℕ → Step
-step_at parts at = record { part = part_at parts at; at = behind parts at }
 
 -- the same parts, at the place behind the part that was read
 abbrev pub moved_on : Reader → Reader

@@ -56,3 +56,6 @@ rest-behind Context = refl
 rest-behind Mapping = refl
 rest-behind Access = refl
 rest-behind View = refl
+
+-- what a proof of the code looks through
+pub ruleset places = (key-first, key-within, rest-behind)

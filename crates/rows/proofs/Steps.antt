@@ -14,8 +14,9 @@ use borrow.Author.Tests.{le-leb, lt-leb, lt-ltb, le-ltb, eq-eqb, ne_eqb}
 use Rattle.answers.specs.declared.Fault.TheVariants.{Torn, OutOfRange}
 use Rattle.numbers.proofs.Bools.{and_both, and-false-left, and-false-right}
 use Rattle.numbers.proofs.BigEndian.{get_d_front}
-use Rattle.rows.specs.declared.Step.{Step}
-use Rattle.rows.specs.declared.Step.TheVariants.{At, Bad}
+use Rattle.answers.specs.declared.Fault.{Fault}
+use Rattle.std.specs.declared.result.Result.{Result}
+use Rattle.std.specs.declared.result.Result.TheVariants.{Ok, Err}
 use Rattle.numbers.specs.BigEndian.{Width, octet, size, number}
 use Rattle.rows.specs.Fields.{within, sequence_fault, integer_fault, faults}
 use Rattle.rows.specs.Steps.{reached, sequence_step, integer_step}
@@ -36,42 +37,42 @@ module _ (row : List ℕ) (at : ℕ) where
     front : get_or (drop at row) 0 0 ≡ n
     front = get_d_front row at ∙ sym e
 
-    pub sequence-none : length row ≤ at → Bad Torn ≡ sequence_step s lo hi row at
+    pub sequence-none : length row ≤ at → Err Torn ≡ sequence_step s lo hi row at
     unfolding sequence_fault
     sequence-none h = rw (length-drop at row, le-ltb 0 (length row - at) (omega arith))
 
-    pub sequence-out : at < length row → within lo hi n ≡ false → Bad OutOfRange ≡ sequence_step s lo hi row at
+    pub sequence-out : at < length row → within lo hi n ≡ false → Err OutOfRange ≡ sequence_step s lo hi row at
     unfolding sequence_fault
     sequence-out h o = rw (length-drop at row, lt-ltb 0 (length row - at) (omega arith), front, o)
 
-    pub sequence-short : at < length row → within lo hi n ≡ true → length row - at < 1 + n * s → Bad Torn ≡ sequence_step s lo hi row at
+    pub sequence-short : at < length row → within lo hi n ≡ true → length row - at < 1 + n * s → Err Torn ≡ sequence_step s lo hi row at
     unfolding sequence_fault
     sequence-short h i l = rw (length-drop at row, lt-ltb 0 (length row - at) (omega arith), front, i, lt-leb (1 + n * s) (length row - at) l)
 
-    pub sequence-whole : at < length row → within lo hi n ≡ true → 1 + n * s ≤ length row - at → At (at + (1 + n * s)) ≡ sequence_step s lo hi row at
+    pub sequence-whole : at < length row → within lo hi n ≡ true → 1 + n * s ≤ length row - at → Ok (at + (1 + n * s)) ≡ sequence_step s lo hi row at
     unfolding sequence_fault
     sequence-whole h i l = rw (length-drop at row, lt-ltb 0 (length row - at) (omega arith), front, i, le-leb (1 + n * s) (length row - at) l)
 
   module _ (w : Width) (lo hi : ℕ) where
-    pub integer-short : length row - at < size w → Bad Torn ≡ integer_step w lo hi row at
+    pub integer-short : length row - at < size w → Err Torn ≡ integer_step w lo hi row at
     unfolding integer_fault
     integer-short l = rw (length-drop at row, lt-leb (size w) (length row - at) l)
 
     module _ (n : ℕ) (e : n ≡ number w (drop at row)) (l : size w ≤ length row - at) where
-      pub integer-out : within lo hi n ≡ false → Bad OutOfRange ≡ integer_step w lo hi row at
+      pub integer-out : within lo hi n ≡ false → Err OutOfRange ≡ integer_step w lo hi row at
       unfolding integer_fault
       integer-out o = rw (length-drop at row, le-leb (size w) (length row - at) l, ← e, o)
 
-      pub integer-whole : within lo hi n ≡ true → At (at + size w) ≡ integer_step w lo hi row at
+      pub integer-whole : within lo hi n ≡ true → Ok (at + size w) ≡ integer_step w lo hi row at
       unfolding integer_fault
       integer-whole i = rw (length-drop at row, le-leb (size w) (length row - at) l, ← e, i)
 
   -- the row's end
-  pub over : (key : ℕ) → at < length row → Bad Torn ≡ reached (faults [] (drop at row)) key
+  pub over : (key : ℕ) → at < length row → Err Torn ≡ reached (faults [] (drop at row)) key
   unfolding faults
   over key h = rw (length-drop at row, ne_eqb (length row - at) 0 (λ e. omega arith))
 
-  pub ended : (key : ℕ) → length row ≤ at → At key ≡ reached (faults [] (drop at row)) key
+  pub ended : (key : ℕ) → length row ≤ at → Ok key ≡ reached (faults [] (drop at row)) key
   unfolding faults
   ended key h = rw (length-drop at row, eq-eqb (length row - at) 0 (omega arith))
 
@@ -82,8 +83,11 @@ once true true n = refl
 once true false n = refl
 once false w n = refl
 
-pub octet-step : {s : Step} (lo hi : ℕ) (row : List ℕ) (at : ℕ) → s ≡ sequence_step 0 lo hi row at → s ≡ integer_step octet lo hi row at
+pub octet-step : {s : Result ℕ Fault} (lo hi : ℕ) (row : List ℕ) (at : ℕ) → s ≡ sequence_step 0 lo hi row at → s ≡ integer_step octet lo hi row at
 unfolding sequence_fault integer_fault
 octet-step lo hi row at e =
     let v = drop at row in
     e ∙ rw (mul-zero (get_or v 0 0)) (once (leb 1 (length v)) (within lo hi (get_or v 0 0)) (at + 1))
+
+-- what a proof of the code looks through
+pub ruleset steps = (sequence-none, sequence-out, sequence-short, sequence-whole, integer-short, integer-out, integer-whole, over, ended)

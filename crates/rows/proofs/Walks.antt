@@ -11,33 +11,33 @@ use native.Mathlib.Omega.{arith}
 use lib.ListN.{length, drop, length-drop}
 use lib.Seq.{drop-drop}
 use Rattle.answers.specs.declared.Fault.{Fault}
-use Rattle.rows.specs.declared.Step.{Step}
-use Rattle.rows.specs.declared.Step.TheVariants.{At, Bad}
+use Rattle.std.specs.declared.result.Result.{Result}
+use Rattle.std.specs.declared.result.Result.TheVariants.{Ok, Err}
 use Rattle.rows.specs.Fields.{Field, fault, taken, or_else, fronts, faults, span}
 use Rattle.rows.specs.Steps.{reached, field_step, fields_step}
 use Rattle.rows.proofs.Sound.{field_room}
 use Rattle.rows.proofs.Appends.{faults-fronts, fronts-room}
 
 -- an answer read back
-pub reached-at : (o : Option Fault) (n a : ℕ) → reached o n ≡ At a → (o ≡ none) × (n ≡ a)
+pub reached-at : (o : Option Fault) (n a : ℕ) → reached o n ≡ Ok a → (o ≡ none) × (n ≡ a)
 reached-at none n a e = (refl, cc)
 reached-at (some f) n a e = (cc, cc)
 
-pub reached-bad : (o : Option Fault) (n : ℕ) (f : Fault) → reached o n ≡ Bad f → o ≡ some f
+pub reached-bad : (o : Option Fault) (n : ℕ) (f : Fault) → reached o n ≡ Err f → o ≡ some f
 reached-bad none n f e = cc
 reached-bad (some g) n f e = cc
 
 -- ---- fields from a place on
 
-pub record Walk (all : Step) (left : List Field) (row : List ℕ) (at : ℕ) : Type 0 where
+pub record Walk (all : Result ℕ Fault) (left : List Field) (row : List ℕ) (at : ℕ) : Type 0 where
   pub judged : fields_step left row at ≡ all
   pub inside : at ≤ length row
 
 pub start : (ks : List Field) (row : List ℕ) (from : ℕ) → from ≤ length row → Walk (fields_step ks row from) ks row from
 start ks row from h = record { judged = refl; inside = h }
 
-module _ {all : Step} {k : Field} {ks : List Field} {row : List ℕ} {at : ℕ} {s : Step} (w : Walk all (k ∷ ks) row at) (e : s ≡ field_step k row at) where
-  pub go : {a : ℕ} → s ≡ At a → Walk all ks row a
+module _ {all : Result ℕ Fault} {k : Field} {ks : List Field} {row : List ℕ} {at : ℕ} {s : Result ℕ Fault} (w : Walk all (k ∷ ks) row at) (e : s ≡ field_step k row at) where
+  pub go : {a : ℕ} → s ≡ Ok a → Walk all ks row a
   unfolding fronts span
   go {a} q =
       let v = drop at row in
@@ -52,25 +52,25 @@ module _ {all : Step} {k : Field} {ks : List Field} {row : List ℕ} {at : ℕ} 
         inside = omega (arith, length-drop at row, w.inside);
       }
 
-  pub stop : {f : Fault} → s ≡ Bad f → s ≡ all
+  pub stop : {f : Fault} → s ≡ Err f → s ≡ all
   unfolding fronts
   stop {f} q = q ∙ (rw (reached-bad (fault k (drop at row)) (at + taken k (drop at row)) f (sym e ∙ q)) at w.judged)
 
-pub arrive : {all : Step} {row : List ℕ} {at : ℕ} → Walk all [] row at → At at ≡ all
+pub arrive : {all : Result ℕ Fault} {row : List ℕ} {at : ℕ} → Walk all [] row at → Ok at ≡ all
 unfolding fronts span
-arrive {all} {row} {at} w = ap At (sym (add-zero at)) ∙ w.judged
+arrive {all} {row} {at} w = ap Ok (sym (add-zero at)) ∙ w.judged
 
 -- ---- the fields of a row in two parts, and bytes over
 
-module _ (ps : List Field) (row : List ℕ) (from : ℕ) {s : Step} (e : s ≡ fields_step ps row from) where
-  pub fields-stop : {f : Fault} → s ≡ Bad f → (qs : List Field) (n : ℕ) → s ≡ reached (faults (ps ++ qs) (drop from row)) n
+module _ (ps : List Field) (row : List ℕ) (from : ℕ) {s : Result ℕ Fault} (e : s ≡ fields_step ps row from) where
+  pub fields-stop : {f : Fault} → s ≡ Err f → (qs : List Field) (n : ℕ) → s ≡ reached (faults (ps ++ qs) (drop from row)) n
   fields-stop {f} q qs n =
       q ∙ sym (rw (faults-fronts ps qs (drop from row), reached-bad (fronts ps (drop from row)) _ f (sym e ∙ q)))
 
-  pub fields-bad : {f : Fault} → s ≡ Bad f → (n : ℕ) → s ≡ reached (faults ps (drop from row)) n
+  pub fields-bad : {f : Fault} → s ≡ Err f → (n : ℕ) → s ≡ reached (faults ps (drop from row)) n
   fields-bad q n = fields-stop q [] n ∙ ap (λ u. reached (faults u (drop from row)) n) (append-nil ps)
 
-  module _ {a : ℕ} (q : s ≡ At a) where
+  module _ {a : ℕ} (q : s ≡ Ok a) where
     passed : (fronts ps (drop from row) ≡ none) × (from + span ps (drop from row) ≡ a)
     passed = reached-at (fronts ps (drop from row)) (from + span ps (drop from row)) a (sym e ∙ q)
 

@@ -1,9 +1,9 @@
 -- What judging a field or a row where its bytes lie answers. Assumes nothing.
 use Rattle.std.specs.Prelude.{List, ℕ, ◌+◌, ◌*◌, drop, get_or}
 use Rattle.std.proofs.Math.Option.{Option, none, some}
+use Rattle.std.specs.Prelude.{Ok, Err}
 use Rattle.answers.specs.declared.Fault.{Fault}
-use Rattle.rows.specs.declared.Step.{Step}
-use Rattle.rows.specs.declared.Step.TheVariants.{At, Bad}
+use Rattle.rows.specs.Types.{Step}
 use Rattle.rows.specs.declared.Table.{Table}
 use Rattle.numbers.specs.BigEndian.{Width, size}
 use Rattle.rows.specs.Fields.{Field, sequence_fault, integer_fault, fault, taken, fronts, faults, span}
@@ -11,8 +11,8 @@ use Rattle.rows.specs.Rows.{key_fields, row_fields}
 
 -- the place reached where nothing is wrong
 abbrev pub reached : Option Fault → ℕ → Step
-reached none a = At a
-reached (some f) a = Bad f
+reached none a = Ok a
+reached (some f) a = Err f
 
 -- a field at `at` of a row: where the next begins
 abbrev pub sequence_step : ℕ → ℕ → ℕ → List ℕ → ℕ → Step

@@ -11,7 +11,7 @@ ghost use Rattle.rows.specs.Steps.{reached, sequence_step, integer_step, field_s
 use answers::Fault;
 
 // The tables, in document 01's order.
-#[derive(Clone, Copy)]
+#[derive(Clone, Copy, PartialEq, Eq, Debug)]
 pub enum Table {
     Context,
     Mapping,
@@ -20,21 +20,14 @@ pub enum Table {
 }
 
 // What bytes or words say of a row: all of it, or its key alone.
-#[derive(Clone, Copy)]
+#[derive(Clone, Copy, PartialEq, Eq, Debug)]
 pub enum Shape {
     Row,
     Key,
 }
 
-// The place that is reached, or what is wrong before it.
-#[derive(Clone, Copy)]
-pub enum Step {
-    At(usize),
-    Bad(Fault),
-}
-
 // A field's form: a name or a mask, a subtree, a number of four bytes or of one; and its range, of octets, sub-identifiers or the number itself.
-#[derive(Clone, Copy)]
+#[derive(Clone, Copy, PartialEq, Eq, Debug)]
 pub enum Form {
     Name(u8, u8),
     Subtree(u8, u8),
@@ -145,6 +138,7 @@ fn view_form(i: usize) -> Form
 }
 
 // The form of the field at place `i` of a row.
+#[tactic(auto, unfolding(crate::specs::Rows::row_fields))]
 pub fn form_at(t: Table, i: usize) -> Form
     requires { i < length (row_fields t) }
     ensures { field_of result ≡ field_in (row_fields t) i }
@@ -158,6 +152,7 @@ pub fn form_at(t: Table, i: usize) -> Form
 }
 
 // How many fields a key has.
+#[tactic(auto, unfolding(crate::specs::Rows::key_fields))]
 pub fn key_len(t: Table) -> usize
     ensures { result ≡ length (key_fields t) }
 {
@@ -169,7 +164,8 @@ pub fn key_len(t: Table) -> usize
     }
 }
 
-// How many fields a row has.
+// How many fields a row has. By hand beside `key_len`: the two share no number, and as one function it would be the same two matches.
+#[tactic(auto, unfolding(crate::specs::Rows::row_fields))]
 pub fn row_len(t: Table) -> usize
     ensures { result ≡ length (row_fields t) }
 {
@@ -191,42 +187,44 @@ pub fn within(lo: usize, hi: usize, x: usize) -> bool
 }
 
 // A count byte from `lo` to `hi` and as many parts of `size` bytes.
-fn sequence(row: &[u8], at: usize, size: usize, lo: usize, hi: usize) -> Step
+#[tactic(auto, using(crate::proofs::Steps::steps))]
+fn sequence(row: &[u8], at: usize, size: usize, lo: usize, hi: usize) -> Result<usize, Fault>
     requires inside { at ≤ length row.now }
     requires few { size ≤ 4 }
     ensures { result ≡ sequence_step size lo hi row.now at }
 {
     if row.len() <= at {
-        return Step::Bad(Fault::Torn);
+        return Err(Fault::Torn);
     }
     let n = numbers::wide(row[at]);
     if !within(lo, hi, n) {
-        return Step::Bad(Fault::OutOfRange);
+        return Err(Fault::OutOfRange);
     }
     let t = 1 + n * size;
     if row.len() - at < t {
-        return Step::Bad(Fault::Torn);
+        return Err(Fault::Torn);
     }
-    Step::At(at + t)
+    Ok(at + t)
 }
 
 // A number of four bytes from `lo` to `hi`.
-fn large(row: &[u8], at: usize, lo: usize, hi: usize) -> Step
+#[tactic(auto, using(crate::proofs::Steps::steps))]
+fn large(row: &[u8], at: usize, lo: usize, hi: usize) -> Result<usize, Fault>
     requires { at ≤ length row.now }
     ensures { result ≡ integer_step quad lo hi row.now at }
 {
     if row.len() - at < 4 {
-        return Step::Bad(Fault::Torn);
+        return Err(Fault::Torn);
     }
     let n = numbers::quad_at(row, at);
     if !within(lo, hi, n) {
-        return Step::Bad(Fault::OutOfRange);
+        return Err(Fault::OutOfRange);
     }
-    Step::At(at + 4)
+    Ok(at + 4)
 }
 
 // The field of a form at `at`: where the next begins.
-fn field(f: Form, row: &[u8], at: usize) -> Step
+fn field(f: Form, row: &[u8], at: usize) -> Result<usize, Fault>
     requires { at ≤ length row.now }
     ensures { result ≡ field_step (field_of f) row.now at }
 {
@@ -240,66 +238,50 @@ fn field(f: Form, row: &[u8], at: usize) -> Step
 }
 
 // The fields from place `from` to before place `to`, the first of them at `at`: where they end.
-fn fields(t: Table, from: usize, to: usize, row: &[u8], at: usize) -> Step
+fn fields(t: Table, from: usize, to: usize, row: &[u8], at: usize) -> Result<usize, Fault>
     requires fields { to ≤ length (row_fields t) }
     requires inside { at ≤ length row.now }
     ensures { result ≡ fields_step (drop from (take to (row_fields t))) row.now at }
 {
-    let mut i = from;
     let mut a = at;
-    while i < to {
-        let f = form_at(t, i);
-        let s = field(f, row, a);
-        let Step::At(b) = s else {
-            return s;
-        };
-        a = b;
-        i += 1;
+    for i in from..to {
+        a = field(form_at(t, i), row, a)?;
     }
-    Step::At(a)
+    Ok(a)
 }
 
 // Where the row's key ends, if its fields end with the row.
-fn whole(row: &[u8], end: usize, key: usize) -> Step
+#[tactic(auto, using(crate::proofs::Steps::steps))]
+fn whole(row: &[u8], end: usize, key: usize) -> Result<usize, Fault>
     ensures { result ≡ reached (faults [] (drop end row.now)) key }
 {
     if end < row.len() {
-        return Step::Bad(Fault::Torn);
+        return Err(Fault::Torn);
     }
-    Step::At(key)
+    Ok(key)
 }
 
 // The key at the front of a row, or by itself, judged: where it ends.
-pub fn judge_front(t: Table, row: &[u8]) -> Step
+#[tactic(auto, using(crate::proofs::Forms::places))]
+pub fn judge_front(t: Table, row: &[u8]) -> Result<usize, Fault>
     ensures { result ≡ fields_step (key_fields t) row.now 0 }
 {
     fields(t, 0, key_len(t), row, 0)
 }
 
 // The key of a table judged, by itself.
-pub fn judge_key(t: Table, key: &[u8]) -> Step
+pub fn judge_key(t: Table, key: &[u8]) -> Result<usize, Fault>
     ensures { result ≡ key_step t key.now }
 {
-    let judged = judge_front(t, key);
-    let Step::At(a) = judged else {
-        return judged;
-    };
-    whole(key, a, a)
+    let end = judge_front(t, key)?;
+    whole(key, end, end)
 }
 
 // The row of a table judged: where its key ends.
-pub fn judge(t: Table, row: &[u8]) -> Step
+pub fn judge(t: Table, row: &[u8]) -> Result<usize, Fault>
     ensures { result ≡ row_step t row.now }
 {
-    let key = judge_front(t, row);
-    let Step::At(a) = key else {
-        return key;
-    };
-    let k = key_len(t);
-    let n = row_len(t);
-    let rest = fields(t, k, n, row, a);
-    let Step::At(b) = rest else {
-        return rest;
-    };
-    whole(row, b, a)
+    let key = judge_front(t, row)?;
+    let end = fields(t, key_len(t), row_len(t), row, key)?;
+    whole(row, end, key)
 }

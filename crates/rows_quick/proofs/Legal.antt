@@ -2,7 +2,7 @@
 -- A walk over the row's fields (`Walks` of rows) goes on past each field whose number is in range and whose bytes are there, and ends
 -- where the row does. So the row has no fault, and its key ends where the walk over the key's fields does. Assumes nothing.
 use mathlib.Core.Path.{◌≡◌, refl, sym, ap, ◌∙◌}
-use mathlib.Core.Bool.{Bool, true, ◌&&◌}
+use mathlib.Core.Bool.{Bool, true, false, ◌&&◌}
 use mathlib.Core.List.{List, [], ◌∷◌}
 use mathlib.Core.Option.{none}
 use Prim.Native.Nat.{ℕ, zero, suc, ◌+◌, ◌-◌, ◌*◌, ◌≤◌}
@@ -10,16 +10,17 @@ use native.Mathlib.Omega.{arith}
 use lib.ListN.{length, drop, get_or}
 use lib.Dec.{eqb}
 use borrow.Author.Tests.{eqb-true}
+use Rattle.std.specs.Prelude.{Option, Ok}
+use Rattle.std.specs.Bool.{then_some}
 use Rattle.numbers.proofs.Bools.{and_left, and_right}
-use Rattle.rows.specs.declared.Step.{Step}
-use Rattle.rows.specs.declared.Step.TheVariants.{At}
+use Rattle.rows.specs.Types.{Step}
 use Rattle.rows.specs.declared.Table.{Table}
 use Rattle.rows.specs.declared.Table.TheVariants.{Context, Mapping, Access, View}
 use Rattle.numbers.specs.BigEndian.{Width, octet, quad, size, number}
 use Rattle.rows.specs.Fields.{Field, sequence, integer, within, faults, span}
 use Rattle.rows.specs.Rows.{model_max, storage, activity, key_fields, rest_fields, row_fields}
 use Rattle.rows.specs.Steps.{row_step, fields_step}
-use Rattle.rows_quick.specs.Quick.{Fits, ends_well}
+use Rattle.rows_quick.specs.Quick.{KeyEnd, Fits, ends_well}
 use Rattle.numbers.proofs.BigEndian.{get_d_front}
 use Rattle.rows.proofs.Steps.{sequence-whole, integer-whole, ended}
 use Rattle.rows.proofs.Appends.{row-split}
@@ -29,10 +30,10 @@ use Rattle.rows.proofs.Walks.{Walk, start, go, arrive, reached-at, fields-end, f
 
 module _ {all : Step} {ks : List Field} {row : List ℕ} {at : ℕ} (lo hi n : ℕ) (i : within lo hi n ≡ true) (z : ℕ) (r : z ≤ length row) where
   sequence-on : (w : Width) → Walk all (sequence w lo hi ∷ ks) row at → n ≡ get_or row at 0 → z ≡ at + 1 + n * size w → Walk all ks row z
-  sequence-on w k e q = go k (sequence-whole row at (size w) lo hi n e (omega arith) i (omega arith)) (ap At (omega arith))
+  sequence-on w k e q = go k (sequence-whole row at (size w) lo hi n e (omega arith) i (omega arith)) (ap Ok (omega arith))
 
   integer-on : (w : Width) → Walk all (integer w lo hi ∷ ks) row at → n ≡ number w (drop at row) → z ≡ at + size w → Walk all ks row z
-  integer-on w k e q = go k (integer-whole row at w lo hi n e (omega arith) i) (ap At (omega arith))
+  integer-on w k e q = go k (integer-whole row at w lo hi n e (omega arith) i) (ap Ok (omega arith))
 
   octet-on : Walk all (integer octet lo hi ∷ ks) row at → n ≡ get_or row at 0 → z ≡ at + 1 → Walk all ks row z
   octet-on k e q = integer-on octet k (e ∙ sym (get_d_front row at)) q
@@ -58,7 +59,7 @@ served ps row from {at} w e i =
     whole ps row from w2
 
 -- the key's fields, and no fault behind them
-legal : (t : Table) (row : List ℕ) {k : ℕ} → Walk (fields_step (key_fields t) row 0) [] row k → faults (rest_fields t) (drop k row) ≡ none → row_step t row ≡ At k
+legal : (t : Table) (row : List ℕ) {k : ℕ} → Walk (fields_step (key_fields t) row 0) [] row k → faults (rest_fields t) (drop k row) ≡ none → row_step t row ≡ Ok k
 legal t row {k} w f =
     let e : span (key_fields t) row ≡ k = omega (arith, fields-end (key_fields t) row 0 (arrive w) refl) in
     let g : faults (row_fields t) row ≡ none = rw (row-split t) (fields_go (key_fields t) row 0 (arrive w) refl (rest_fields t) ∙ f) in
@@ -78,10 +79,15 @@ each b (t ∷ ts) e zero = and_left b t (each (b && t) ts e 0)
 each b (t ∷ ts) e (suc zero) = and_right b t (each (b && t) ts e 0)
 each b (t ∷ ts) e (suc (suc i)) = each (b && t) ts e (suc i)
 
+-- what they tell together
+pub told : (t : Table) (row : List ℕ) {k : ℕ} {o : Option ℕ} (b : Bool) → o ≡ then_some b k → (b ≡ true → row_step t row ≡ Ok k) → KeyEnd t row o
+told t row true e f = rw e (f refl)
+told t row false e f = rw e tt
+
 -- ---- the tables
 
 pub context-legal : (row : List ℕ) (name : ℕ) → name ≡ get_or row 0 0
-    → joined (eqb (1 + name) (length row)) (within 0 32 name ∷ []) ≡ true → row_step Context row ≡ At (length row)
+    → joined (eqb (1 + name) (length row)) (within 0 32 name ∷ []) ≡ true → row_step Context row ≡ Ok (length row)
 unfolding key_fields
 context-legal row name en t =
     let h = each _ _ t in
@@ -92,7 +98,7 @@ context-legal row name en t =
 pub mapping-legal : (row : List ℕ) (model name group : ℕ) → let a = 5 + name in
     model ≡ number quad row → name ≡ get_or row 4 0 → group ≡ get_or row a 0
     → joined (eqb (a + 1 + group + 2) (length row)) (within 1 model_max model ∷ within 1 32 name ∷ within 1 32 group ∷ ends_well row ∷ []) ≡ true
-    → row_step Mapping row ≡ At a
+    → row_step Mapping row ≡ Ok a
 unfolding key_fields
 mapping-legal row model name group em en eg t =
     let h = each _ _ t in
@@ -123,7 +129,7 @@ pub access-legal : (row : List ℕ) (group prefix model level : ℕ) (fits : Boo
     b + 5 ≤ length row → group ≡ get_or row 0 0 → prefix ≡ get_or row a 0 → model ≡ number quad (drop b row) → level ≡ get_or row (b + 4) 0
     → Fits (rest_fields Access) row (b + 5) fits
     → joined (within 1 32 group) (within 0 32 prefix ∷ within 0 model_max model ∷ within 1 3 level ∷ fits ∷ []) ≡ true
-    → row_step Access row ≡ At (b + 5)
+    → row_step Access row ≡ Ok (b + 5)
 unfolding key_fields
 access-legal row group prefix model level fits l eg ep em el f t =
     let h = each _ _ t in
@@ -139,7 +145,7 @@ pub view-legal : (row : List ℕ) (name parts mask kind : ℕ) → let a = 1 + n
     name ≡ get_or row 0 0 → parts ≡ get_or row a 0 → mask ≡ get_or row b 0 → kind ≡ get_or row (length row - 3) 0
     → joined (eqb (b + 1 + mask + 3) (length row))
     (within 1 32 name ∷ within 1 64 parts ∷ within 0 16 mask ∷ within 1 2 kind ∷ ends_well row ∷ []) ≡ true
-    → row_step View row ≡ At b
+    → row_step View row ≡ Ok b
 unfolding key_fields
 view-legal row name parts mask kind en ep em ek t =
     let h = each _ _ t in

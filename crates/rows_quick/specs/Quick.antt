@@ -1,14 +1,15 @@
 -- What the quick look at a row tells. Assumes nothing.
-use Rattle.std.specs.Prelude.{◌≡◌, ◌⊎◌, Bool, true, ◌&&◌, List, ℕ, ◌-◌, length, drop, get_or}
+use Rattle.std.specs.Prelude.{◌≡◌, Bool, true, ◌&&◌, List, ℕ, ◌-◌, length, drop, get_or}
 use Rattle.std.proofs.Math.Option.{none}
-use Rattle.rows.specs.declared.Step.TheVariants.{At}
+use Rattle.std.specs.Prelude.{Option, None, Some, Ok}
 use Rattle.rows.specs.declared.Table.{Table}
 use Rattle.rows.specs.Fields.{Field, within, faults}
 use Rattle.rows.specs.Steps.{row_step}
 
--- a quick test of a row: 0, which tells nothing, or where the key of a legal row ends
-abbrev pub KeyEnd : Table → List ℕ → ℕ → Type 0
-KeyEnd t row k = (k ≡ 0) ⊎ (row_step t row ≡ At k)
+-- a quick test of a row: None, which tells nothing, or where the key of a legal row ends
+abbrev pub KeyEnd : Table → List ℕ → Option ℕ → Type 0
+KeyEnd t row None = Unit {0}
+KeyEnd t row (Some k) = row_step t row ≡ Ok k
 
 -- a quick test of the last fields of a row: where it passes, nothing is wrong from `at` on
 abbrev pub Fits : List Field → List ℕ → ℕ → Bool → Type 0

@@ -1,5 +1,5 @@
 // A legal row told with few branches, its tests joined, where speed counts.
-// 0 or false tells nothing: `rows::judge` says what is wrong, if anything is.
+// None or false tells nothing: `rows::judge` says what is wrong, if anything is.
 #![tactic(auto)]
 
 ghost use Rattle.std.specs.Prelude.{◌≡◌, ◌+◌, ◌≤◌, ◌<◌, length, get_or};
@@ -8,7 +8,8 @@ ghost use Rattle.rows.specs.Rows.{access_rest};
 ghost use Rattle.rows.specs.Steps.{row_step};
 ghost use Rattle.rows_quick.specs.Quick.{KeyEnd, Fits, ends_well};
 
-use rows::{Step, Table, within};
+use answers::Fault;
+use rows::{Table, within};
 
 // Ranges of document 01 as lengths and places are compared.
 const MODEL_LAST: usize = rows::MODEL_MAX as usize;
@@ -46,44 +47,38 @@ fn ends_well(row: &[u8]) -> bool
 }
 
 // A context name, and nothing behind it.
-fn context_end(row: &[u8]) -> usize
+fn context_end(row: &[u8]) -> Option<usize>
     ensures { KeyEnd Context row.now result }
 {
     let n = row.len();
     if n < 1 {
-        return 0;
+        return None;
     }
     let name = byte_at(row, 0);
-    if !((1 + name == n) & within(0, 32, name)) {
-        return 0;
-    }
-    n
+    ((1 + name == n) & within(0, 32, name)).then_some(n)
 }
 
 // Model and security name, then group, storage and status.
-fn mapping_end(row: &[u8]) -> usize
+fn mapping_end(row: &[u8]) -> Option<usize>
     ensures { KeyEnd Mapping row.now result }
 {
     let n = row.len();
     if n < 10 {
-        return 0;
+        return None;
     }
     let model = numbers::quad_at(row, 0);
     let name = byte_at(row, 4);
     let a = 5 + name;
     if n < a + 4 {
-        return 0;
+        return None;
     }
     let group = byte_at(row, a);
-    if !((a + 1 + group + 2 == n)
+    let legal = (a + 1 + group + 2 == n)
         & within(1, MODEL_LAST, model)
         & within(1, 32, name)
         & within(1, 32, group)
-        & ends_well(row))
-    {
-        return 0;
-    }
-    a
+        & ends_well(row);
+    legal.then_some(a)
 }
 
 // What follows the key of an access row: the match, three view names, a storage and a status.
@@ -113,71 +108,65 @@ fn access_rest_fits(row: &[u8], key: usize) -> bool
 }
 
 // Group, prefix, model and level, then what `access_rest_fits` looks at.
-fn access_end(row: &[u8]) -> usize
+fn access_end(row: &[u8]) -> Option<usize>
     ensures { KeyEnd Access row.now result }
 {
     let n = row.len();
     if n < 14 {
-        return 0;
+        return None;
     }
     let group = byte_at(row, 0);
     let a = 1 + group;
     if n < a + 12 {
-        return 0;
+        return None;
     }
     let prefix = byte_at(row, a);
     let b = a + 1 + prefix;
     if n < b + 11 {
-        return 0;
+        return None;
     }
     let model = numbers::quad_at(row, b);
     let level = byte_at(row, b + 4);
     let key = b + 5;
-    if !(within(1, 32, group)
+    let legal = within(1, 32, group)
         & within(0, 32, prefix)
         & within(0, MODEL_LAST, model)
         & within(LEVEL_FIRST, LEVEL_LAST, level)
-        & access_rest_fits(row, key))
-    {
-        return 0;
-    }
-    key
+        & access_rest_fits(row, key);
+    legal.then_some(key)
 }
 
 // View name and subtree, then mask, type, storage and status.
-fn view_end(row: &[u8]) -> usize
+fn view_end(row: &[u8]) -> Option<usize>
     ensures { KeyEnd View row.now result }
 {
     let n = row.len();
     if n < 11 {
-        return 0;
+        return None;
     }
     let name = byte_at(row, 0);
     let a = 1 + name;
     if n < a + 9 {
-        return 0;
+        return None;
     }
     let parts = byte_at(row, a);
     let b = a + 1 + parts * 4;
     if n < b + 4 {
-        return 0;
+        return None;
     }
     let mask = byte_at(row, b);
     let kind = byte_at(row, n - 3);
-    if !((b + 1 + mask + 3 == n)
+    let legal = (b + 1 + mask + 3 == n)
         & within(1, 32, name)
         & within(1, 64, parts)
         & within(0, 16, mask)
         & within(1, 2, kind)
-        & ends_well(row))
-    {
-        return 0;
-    }
-    b
+        & ends_well(row);
+    legal.then_some(b)
 }
 
-// Where the key of a legal row ends, or 0.
-fn key_end(t: Table, row: &[u8]) -> usize
+// Where the key of a legal row ends.
+fn key_end(t: Table, row: &[u8]) -> Option<usize>
     ensures { KeyEnd t row.now result }
 {
     match t {
@@ -189,12 +178,11 @@ fn key_end(t: Table, row: &[u8]) -> usize
 }
 
 // A row judged: a legal one by a quick look at its lengths and its end, any other field by field.
-pub fn judge_row(t: Table, row: &[u8]) -> Step
+pub fn judge_row(t: Table, row: &[u8]) -> Result<usize, Fault>
     ensures { result ≡ row_step t row.now }
 {
-    let k = key_end(t, row);
-    if k == 0 {
-        return rows::judge(t, row);
+    match key_end(t, row) {
+        Some(k) => Ok(k),
+        None => rows::judge(t, row),
     }
-    Step::At(k)
 }

@@ -1,3 +1,4 @@
 pub mod Places
 pub mod Bytes
 pub mod Weights
+pub mod Judged

@@ -9,7 +9,7 @@ use lib.ListN.{length}
 use Rattle.numbers.specs.Lists.{any}
 use Rattle.rows.specs.declared.Table.{Table}
 use Rattle.table_update.specs.Exchange.{one_if}
-use Rattle.edit_rules.specs.declared.Edited.{Edited}
+use Rattle.edit_rules.specs.Types.{Edited}
 use Rattle.edit_rules.specs.Edits.{Edit, edit_of}
 use Rattle.set_rules.specs.declared.SetEdit.{SetEdit}
 use Rattle.set_rules.specs.declared.Weight.{Weight}

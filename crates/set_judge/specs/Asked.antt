@@ -1,5 +1,7 @@
 -- What judging a set asks for. Assumes nothing.
 use Rattle.std.specs.Prelude.{◌≡◌, true, cond, List, ℕ, ◌≤◌}
+use Rattle.std.specs.Prelude.{Err}
+use Rattle.answers.specs.declared.Refusal.TheVariants.{Faulty}
 use Rattle.answers.specs.declared.Fault.TheVariants.{OutOfRange, ContextTable}
 use Rattle.rows.specs.declared.Table.{Table}
 use Rattle.rows.specs.Rows.{limit}
@@ -7,9 +9,8 @@ use Rattle.image_layout.specs.declared.Layout.{Layout}
 use Rattle.image_layout.specs.Layout.{layout_of, extent_of}
 use Rattle.image_judge.specs.Faults.{tables_at}
 use Rattle.image.specs.Store.{is_sound}
-use Rattle.decision_parts.specs.declared.Standing.{Standing}
-use Rattle.edit_rules.specs.declared.Edited.{Edited}
-use Rattle.edit_rules.specs.declared.Edited.TheVariants.{Faulty}
+use Rattle.decision_parts.specs.Types.{Standing}
+use Rattle.edit_rules.specs.Types.{Edited}
 use Rattle.edit_rules.specs.Edits.{Edit, shape_of, index_of_edit, legal_edit, is_context, row_fault, faulted}
 use Rattle.edit_rights.specs.Standing.{StandingIn, judged_by}
 use Rattle.edits.specs.Calls.{allowed}
@@ -24,9 +25,9 @@ pub record Judging (w : List ℕ) (l : Layout) (standing : Standing) : Type 0 wh
 unfoldable pub judged_with : List ℕ → Layout → Standing → Edit → Edited
 judged_with w l standing e =
     cond (legal_edit e)
-    (cond (is_context e.table) (Faulty ContextTable)
+    (cond (is_context e.table) (Err (Faulty ContextTable))
     (allowed (judged_by w standing (shape_of e.operation) e.table (index_of_edit e)) (faulted (row_fault true (tables_at w l) e))))
-    (Faulty OutOfRange)
+    (Err (Faulty OutOfRange))
 
 -- tables of no more rows than they may have
 abbrev pub Limited : Layout → Type 0

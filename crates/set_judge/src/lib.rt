@@ -12,12 +12,11 @@ ghost use Rattle.set_rules.specs.Handed.{bytes_in, edit_in, place_in, edits_from
 ghost use Rattle.set_rules.specs.Made.{begins, is_removal, weighed, weight, room_weighed, counted_room};
 ghost use Rattle.set_judge.specs.Asked.{Judging, judged_with, Limited};
 
-use answers::Fault;
-use decision_parts::Standing;
-use edit_rights::Admission;
-use edit_rules::{Edited, Operation};
+use answers::{Cause, Fault, Refusal};
+use decision_parts::NamedView;
+use edit_rules::Operation;
 use image_layout::Layout;
-use rows::{Step, Table};
+use rows::Table;
 use set_rules::{EditSet, MOST_EDITS, SetAnswer, SetEdit, Weight};
 
 // ---- what is handed
@@ -26,8 +25,8 @@ use set_rules::{EditSet, MOST_EDITS, SetAnswer, SetEdit, Weight};
 pub fn bytes_of(x: SetEdit, bytes: &[u8]) -> &[u8]
     ensures { result.now ≡ bytes_in x.from x.end bytes.now }
 {
-    let end = numbers::least(x.end, bytes.len());
-    let from = numbers::least(x.from, end);
+    let end = x.end.min(bytes.len());
+    let from = x.from.min(end);
     &bytes[from..end]
 }
 
@@ -36,29 +35,21 @@ pub fn bytes_of(x: SetEdit, bytes: &[u8]) -> &[u8]
 fn is_same_table(t: Table, u: Table) -> bool
     ensures { result ≡ same_table t u }
 {
-    table_update::position_of(t) == table_update::position_of(u)
+    t == u
 }
 
 // Whether the first bytes, as many as the key has, are the key.
 fn has_front(bytes: &[u8], key: &[u8]) -> bool
     ensures { result ≡ same (take (length key.now) bytes.now) key.now }
 {
-    let n = key.len();
-    if bytes.len() < n {
-        return false;
-    }
-    octets::are_same(&bytes[0..n], key)
+    key.len() <= bytes.len() && octets::are_same(&bytes[0..key.len()], key)
 }
 
 // Whether an edit is of this table and begins with this key.
 fn is_of_key(t: Table, key: &[u8], x: SetEdit, bytes: &[u8]) -> bool
     ensures { result ≡ begins t key.now (edit_in x bytes.now) }
 {
-    let u = x.table;
-    if !is_same_table(t, u) {
-        return false;
-    }
-    has_front(bytes_of(x, bytes), key)
+    is_same_table(t, x.table) && has_front(bytes_of(x, bytes), key)
 }
 
 // Whether one of the edits from place `from` on is of this table and begins with this key.
@@ -74,12 +65,10 @@ fn comes_again(
     requires place { from ≤ count }
     ensures { result ≡ any (begins t key.now) (edits_from edits bytes.now from (count - from)) }
 {
-    let mut i = from;
-    while i < count {
+    for i in from..count {
         if is_of_key(t, key, edits[i], bytes) {
             return true;
         }
-        i += 1;
     }
     false
 }
@@ -93,8 +82,7 @@ fn is_repeated(edits: [SetEdit; MOST_EDITS], i: usize, count: usize, bytes: &[u8
     let x = edits[i];
     let own = bytes_of(x, bytes);
     let t = x.table;
-    let judged = rows::judge_front(t, own);
-    let Step::At(k) = judged else {
+    let Ok(k) = rows::judge_front(t, own) else {
         return false;
     };
     comes_again(t, &own[0..k], edits, i + 1, count, bytes)
@@ -104,12 +92,10 @@ fn keys_differ(edits: [SetEdit; MOST_EDITS], count: usize, bytes: &[u8]) -> bool
     requires { count ≤ most_edits }
     ensures { result ≡ keys_differ (edits_from edits bytes.now 0 count) }
 {
-    let mut i = 0;
-    while i < count {
+    for i in 0..count {
         if is_repeated(edits, i, count, bytes) {
             return false;
         }
-        i += 1;
     }
     true
 }
@@ -118,12 +104,7 @@ fn keys_differ(edits: [SetEdit; MOST_EDITS], count: usize, bytes: &[u8]) -> bool
 pub fn is_set(s: EditSet, bytes: &[u8]) -> bool
     ensures { result ≡ is_set (edits_of s bytes.now) }
 {
-    let count = s.count;
-    if !rows::within(1, MOST_EDITS, count) {
-        return false;
-    }
-    let edits = s.edits;
-    keys_differ(edits, count, bytes)
+    rows::within(1, MOST_EDITS, s.count) && keys_differ(s.edits, s.count, bytes)
 }
 
 // ---- each edit judged
@@ -132,23 +113,16 @@ pub fn is_set(s: EditSet, bytes: &[u8]) -> bool
 fn judge_edit(
     w: &[u8],
     l: Layout,
-    standing: Standing,
+    standing: Result<NamedView, Cause>,
     o: Operation,
     t: Table,
     bytes: &[u8],
-) -> Edited
+) -> Result<(), Refusal>
     requires { Judging w.now l standing }
     ensures { result ≡ judged_with w.now l standing (edit_of o t bytes.now) }
 {
-    let step = edits::judge_handed(o, t, bytes);
-    let Step::At(k) = step else {
-        return Edited::Faulty(Fault::OutOfRange);
-    };
-    let key = &bytes[0..k];
-    let admission = edit_rights::admit(w, standing, edit_rules::shape_of(o), t, key);
-    if let Admission::Denied(r) = admission {
-        return r;
-    }
+    let k = edits::judge_handed(o, t, bytes).or(Err(Fault::OutOfRange))?;
+    edit_rights::admit(w, standing, edit_rules::shape_of(o), t, &bytes[0..k])?;
     edit_rows::judge(w, l, true, o, t, bytes, k)
 }
 
@@ -156,7 +130,7 @@ fn judge_edit(
 pub fn judge_edits(
     w: &[u8],
     l: Layout,
-    standing: Standing,
+    standing: Result<NamedView, Cause>,
     edits: [SetEdit; MOST_EDITS],
     count: usize,
     bytes: &[u8],
@@ -165,23 +139,18 @@ pub fn judge_edits(
     requires judging { Judging w.now l standing }
     ensures { result ≡ first_refused (judged_with w.now l standing) 1 (edits_from edits bytes.now 0 count) }
 {
-    let mut i = 0;
-    while i < count {
+    for i in 0..count {
         let x = edits[i];
-        let o = x.operation;
-        let t = x.table;
-        let own = bytes_of(x, bytes);
-        let answer = judge_edit(w, l, standing, o, t, own);
-        let Edited::Done = answer else {
+        let answer = judge_edit(w, l, standing, x.operation, x.table, bytes_of(x, bytes));
+        let Ok(()) = answer else {
             return SetAnswer {
                 answer,
                 position: i + 1,
             };
         };
-        i += 1;
     }
     SetAnswer {
-        answer: Edited::Done,
+        answer: Ok(()),
         position: 0,
     }
 }
@@ -191,11 +160,7 @@ pub fn judge_edits(
 fn is_removal(o: Operation) -> bool
     ensures { result ≡ is_removal o }
 {
-    match o {
-        Operation::Create => false,
-        Operation::Change => false,
-        Operation::Remove => true,
-    }
+    o == Operation::Remove
 }
 
 // With the edit at a position in front.
@@ -233,6 +198,7 @@ fn weigh(edits: [SetEdit; MOST_EDITS], count: usize, t: Table) -> Weight
         removals: 0,
         first: 0,
     };
+    // by hand: from the last to the first, and a position counts from 1, so that `i` is the position of the edit before place i
     let mut i = count;
     while 0 < i {
         let x = edits[i - 1];
@@ -254,12 +220,12 @@ fn room_in(edits: [SetEdit; MOST_EDITS], count: usize, t: Table, n: usize) -> Se
     let over = rows::limit(t) + w.removals < n + w.creates;
     if (0 < w.first) & over {
         return SetAnswer {
-            answer: Edited::Faulty(Fault::TableFull),
+            answer: Err(Refusal::Faulty(Fault::TableFull)),
             position: w.first,
         };
     }
     SetAnswer {
-        answer: Edited::Done,
+        answer: Ok(()),
         position: 0,
     }
 }
@@ -268,11 +234,10 @@ fn room_in(edits: [SetEdit; MOST_EDITS], count: usize, t: Table, n: usize) -> Se
 fn or_next(a: SetAnswer, b: SetAnswer) -> SetAnswer
     ensures { result ≡ or_next a b }
 {
-    let answer = a.answer;
-    let Edited::Done = answer else {
-        return a;
-    };
-    b
+    match a.answer {
+        Ok(()) => b,
+        Err(_) => a,
+    }
 }
 
 // The first table that would have too many rows.

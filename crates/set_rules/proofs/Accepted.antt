@@ -12,8 +12,9 @@ use native.Mathlib.Omega.{arith}
 use lib.Dec.{ltb}
 use lib.ListN.{length}
 use borrow.Author.Tests.{ltb-false, not-true}
-use Rattle.answers.specs.declared.Decision.{Decision}
-use Rattle.answers.specs.declared.Decision.TheVariants.{Allowed, Refused}
+use Rattle.std.specs.Prelude.{Ok, Err}
+use Rattle.answers.specs.declared.Refusal.TheVariants.{Barred, Faulty}
+use Rattle.answers.specs.Types.{Decision}
 use Rattle.answers.specs.declared.Fault.{Fault}
 use Rattle.numbers.specs.BigEndian.{Octets}
 use Rattle.numbers.specs.Lists.{any}
@@ -29,8 +30,7 @@ use Rattle.rows.proofs.Sound.{or_else_none}
 use Rattle.table_update.specs.Exchange.{one_if}
 use Rattle.edit_rules.specs.declared.Operation.{Operation}
 use Rattle.edit_rules.specs.declared.Operation.TheVariants.{Create, Change, Remove}
-use Rattle.edit_rules.specs.declared.Edited.{Edited}
-use Rattle.edit_rules.specs.declared.Edited.TheVariants.{Done, Barred, Faulty}
+use Rattle.edit_rules.specs.Types.{Edited}
 use Rattle.edit_rules.specs.TableRows.{rows_of, storage_of}
 use Rattle.edit_rules.specs.Edits.{Edit, Caller, edit_of, legal_caller, legal_edit, is_context, judgement, row_held, presence_fault, row_fault, faulted}
 use Rattle.edit_rules.proofs.Outcomes.{faulty-done}
@@ -51,25 +51,25 @@ pub or-next-done : (a b : SetAnswer) → is_done (or_next a b).answer ≡ true �
 unfolding or_next
 or-next-done a b h = split (is_done a.answer) (λ d. (d, rw d at h)) (λ d. clash (rw d at h) d)
 
-pub is-done : (r : Edited) → is_done r ≡ true → r ≡ Done
-is-done Done e = refl
-is-done (Barred c) e = clash e refl
-is-done (Faulty f) e = clash e refl
+pub is-done : (r : Edited) → is_done r ≡ true → r ≡ (Ok tt)
+is-done (Ok tt) e = refl
+is-done (Err (Barred c)) e = clash e refl
+is-done (Err (Faulty f)) e = clash e refl
 
-pub undone : (r : Edited) → (r ≡ Done → ⊥) → is_done r ≡ false
+pub undone : (r : Edited) → (r ≡ (Ok tt) → ⊥) → is_done r ≡ false
 undone r n = is_false (is_done r) (λ e. n (is-done r e))
 
 -- ---- an edit judged Done is in order
 
-allowed-done : (d : Decision) (r : Edited) → allowed d r ≡ Done → r ≡ Done
-allowed-done Allowed r e = e
-allowed-done (Refused c) r e = let z : ◌≡◌ {A = ℕ} 0 1 = cc e in absurd (omega arith)
+allowed-done : (d : Decision) (r : Edited) → allowed d r ≡ (Ok tt) → r ≡ (Ok tt)
+allowed-done (Ok tt) r e = e
+allowed-done (Err c) r e = let z : ◌≡◌ {A = ℕ} 0 1 = cc e in absurd (omega arith)
 
-faulted-none : (f : Option Fault) → faulted f ≡ Done → f ≡ none
+faulted-none : (f : Option Fault) → faulted f ≡ (Ok tt) → f ≡ none
 faulted-none none e = refl
 faulted-none (some f) e = absurd (faulty-done e)
 
-pub judged-order : (ts : Tables) (c : Caller) (e : Edit) → principal_judged ts c e ≡ Done → InOrder ts e
+pub judged-order : (ts : Tables) (c : Caller) (e : Edit) → principal_judged ts c e ≡ (Ok tt) → InOrder ts e
 unfolding principal_judged row_fault
 judged-order ts c e h =
     split (legal_caller c && legal_edit e)

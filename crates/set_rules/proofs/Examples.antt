@@ -5,6 +5,8 @@
 use mathlib.Core.Path.{◌≡◌, refl}
 use mathlib.Core.List.{List, [], ◌∷◌, map}
 use Prim.Native.Nat.{ℕ, zero, suc}
+use Rattle.std.specs.Prelude.{Ok, Err}
+use Rattle.answers.specs.declared.Refusal.TheVariants.{Barred, Faulty}
 use Rattle.answers.specs.declared.Cause.TheVariants.{NoGroupName}
 use Rattle.answers.specs.declared.Fault.TheVariants.{OutOfRange, TableFull, RowAbsent, RowHeld, NotASet}
 use Rattle.numbers.specs.Order.{same, before}
@@ -14,8 +16,7 @@ use Rattle.rows.specs.Rows.{MappingRow, AccessRow, ViewRow, key_fields, row_fiel
 use Rattle.rows.specs.Tables.{Tables}
 use Rattle.edit_rules.specs.declared.Operation.{Operation}
 use Rattle.edit_rules.specs.declared.Operation.TheVariants.{Create, Change, Remove}
-use Rattle.edit_rules.specs.declared.Edited.{Edited}
-use Rattle.edit_rules.specs.declared.Edited.TheVariants.{Done, Barred, Faulty}
+use Rattle.edit_rules.specs.Types.{Edited}
 use Rattle.edit_rules.specs.TableRows.{tables_of}
 use Rattle.edit_rules.specs.Edits.{Edit, Caller, edit_of, caller_of, index_of_edit, legal_edit, may_put, may_remove, row_fault, applied, legal_caller}
 use Rattle.edit_rules.proofs.Examples.{judged}
@@ -106,35 +107,35 @@ Refused ts c es r p = made ts c es ≡ told r p ts
 -- ---- accepted and refused
 
 -- removals, creates and changes in any order
-pub accepted : made (with (mapped 3 2 ∷ mapped 4 2 ∷ [])) caller (remove 3 ∷ create 5 ∷ change 4 3 ∷ []) ≡ told Done 0 (with (mapped 4 3 ∷ mapped 5 2 ∷ []))
+pub accepted : made (with (mapped 3 2 ∷ mapped 4 2 ∷ [])) caller (remove 3 ∷ create 5 ∷ change 4 3 ∷ []) ≡ told (Ok tt) 0 (with (mapped 4 3 ∷ mapped 5 2 ∷ []))
 unfolding made
 accepted = refl
 
 -- "the first refusal in set order comes back with its position, and nothing changes"
-pub first-refusal : Refused (with (mapped 3 2 ∷ [])) caller (create 5 ∷ create 3 ∷ change 4 3 ∷ []) (Faulty RowHeld) 2
+pub first-refusal : Refused (with (mapped 3 2 ∷ [])) caller (create 5 ∷ create 3 ∷ change 4 3 ∷ []) (Err (Faulty RowHeld)) 2
 unfolding made
 first-refusal = refl
 
-pub last-refused : Refused (with (mapped 3 2 ∷ [])) caller (create 5 ∷ remove 3 ∷ change 4 3 ∷ []) (Faulty RowAbsent) 3
+pub last-refused : Refused (with (mapped 3 2 ∷ [])) caller (create 5 ∷ remove 3 ∷ change 4 3 ∷ []) (Err (Faulty RowAbsent)) 3
 unfolding made
 last-refused = refl
 
 -- "judged against the store before the set": what the caller is allowed goes with its mapping, and the next edit is still judged by it
-pub judged-before : made (with []) caller (remove 1 ∷ create 5 ∷ []) ≡ told Done 0 (tables (mapped 5 2 ∷ []) [])
+pub judged-before : made (with []) caller (remove 1 ∷ create 5 ∷ []) ≡ told (Ok tt) 0 (tables (mapped 5 2 ∷ []) [])
 unfolding made
 judged-before = refl
 
 -- the first edit's cause comes before the second's 7
-pub cause-first : Refused (tables [] []) caller (create 5 ∷ edit_out_of_range 6 ∷ []) (Barred NoGroupName) 1
+pub cause-first : Refused (tables [] []) caller (create 5 ∷ edit_out_of_range 6 ∷ []) (Err (Barred NoGroupName)) 1
 unfolding made
 cause-first = refl
 
-pub out_of_range : Refused (with []) caller (create 5 ∷ edit_out_of_range 6 ∷ []) (Faulty OutOfRange) 2
+pub out_of_range : Refused (with []) caller (create 5 ∷ edit_out_of_range 6 ∷ []) (Err (Faulty OutOfRange)) 2
 unfolding made
 out_of_range = refl
 
 -- "a caller's 7" carries 0
-pub callers-fault : Refused (with []) nobody (create 5 ∷ []) (Faulty OutOfRange) 0
+pub callers-fault : Refused (with []) nobody (create 5 ∷ []) (Err (Faulty OutOfRange)) 0
 unfolding made
 callers-fault = refl
 
@@ -149,30 +150,30 @@ counted n (suc k) = n ∷ counted (suc n) k
 abbrev crowd : ℕ → ℕ → List MappingRow
 crowd n k = map (λ name. mapped name 2) (counted n k)
 
-pub empty : Refused (with []) caller [] (Faulty NotASet) 0
+pub empty : Refused (with []) caller [] (Err (Faulty NotASet)) 0
 unfolding made
 empty = refl
 
-pub eight : made (with []) caller (map create (counted 3 8)) ≡ told Done 0 (with (crowd 3 8))
+pub eight : made (with []) caller (map create (counted 3 8)) ≡ told (Ok tt) 0 (with (crowd 3 8))
 unfolding made
 eight = refl
 
-pub nine : Refused (with []) caller (map create (counted 3 9)) (Faulty NotASet) 0
+pub nine : Refused (with []) caller (map create (counted 3 9)) (Err (Faulty NotASet)) 0
 unfolding made
 nine = refl
 
 -- "a legal key of one table twice", of a removal and of a create
-pub twice : Refused (with (mapped 3 2 ∷ [])) caller (remove 3 ∷ create 5 ∷ create 3 ∷ []) (Faulty NotASet) 0
+pub twice : Refused (with (mapped 3 2 ∷ [])) caller (remove 3 ∷ create 5 ∷ create 3 ∷ []) (Err (Faulty NotASet)) 0
 unfolding made
 twice = refl
 
 -- "before all field checks", the caller's and the edits'
-pub twice-first : Refused (with []) nobody (edit_out_of_range 5 ∷ edit_out_of_range 5 ∷ []) (Faulty NotASet) 0
+pub twice-first : Refused (with []) nobody (edit_out_of_range 5 ∷ edit_out_of_range 5 ∷ []) (Err (Faulty NotASet)) 0
 unfolding made
 twice-first = refl
 
 -- an empty name makes no legal key
-pub illegal-twice : Refused (with []) caller (remove_key [] ∷ remove_key [] ∷ []) (Faulty OutOfRange) 1
+pub illegal-twice : Refused (with []) caller (remove_key [] ∷ remove_key [] ∷ []) (Err (Faulty OutOfRange)) 1
 unfolding made
 illegal-twice = refl
 
@@ -182,7 +183,7 @@ of_two = 1 ∷ 1 ∷ 1 ∷ 0 ∷ 2 ∷ 3 ∷ 4 ∷ []
 
 pub once-each : made (tables (mapped 1 2 ∷ mapped_by 16843008 (3 ∷ 4 ∷ []) 2 ∷ []) (viewed 1 131844 ∷ [])) caller
     (edit_of Remove Mapping of_two ∷ edit_of Remove View of_two ∷ [])
-    ≡ told Done 0 (with [])
+    ≡ told (Ok tt) 0 (with [])
 unfolding made
 once-each = refl
 
@@ -192,21 +193,21 @@ abbrev full : Tables
 full = with (crowd 2 63)
 
 -- "judged last, on the rows that would stand afterwards"
-pub removal-counts : (made full caller (create 65 ∷ remove 2 ∷ [])).answer ≡ answer_at Done 0
+pub removal-counts : (made full caller (create 65 ∷ remove 2 ∷ [])).answer ≡ answer_at (Ok tt) 0
 unfolding made
 removal-counts = refl
 
-pub held_first : (made full caller (create 65 ∷ create 3 ∷ [])).answer ≡ answer_at (Faulty RowHeld) 2
+pub held_first : (made full caller (create 65 ∷ create 3 ∷ [])).answer ≡ answer_at (Err (Faulty RowHeld)) 2
 unfolding made
 held_first = refl
 
 -- "9 carries the position of the set's first create in that table"
-pub first-create : (made full caller (remove 2 ∷ create 65 ∷ create 66 ∷ [])).answer ≡ answer_at (Faulty TableFull) 2
+pub first-create : (made full caller (remove 2 ∷ create 65 ∷ create 66 ∷ [])).answer ≡ answer_at (Err (Faulty TableFull)) 2
 unfolding made
 first-create = refl
 
 -- "tables in document 01's order": both are full, and mappings come before views
 pub mappings-first : (made (tables (crowd 1 64) (map (viewed 2) (counted 1 95))) caller (create_view 96 ∷ create 65 ∷ [])).answer
-    ≡ answer_at (Faulty TableFull) 2
+    ≡ answer_at (Err (Faulty TableFull)) 2
 unfolding made
 mappings-first = refl

@@ -11,6 +11,8 @@ use native.Mathlib.Omega.{arith}
 use lib.Dec.{leb, ltb}
 use lib.ListN.{length}
 use borrow.Author.Tests.{ltb-true, leb-true, lt-ltb, le-leb}
+use Rattle.std.specs.Prelude.{Ok, Err}
+use Rattle.answers.specs.declared.Refusal.TheVariants.{Barred, Faulty}
 use Rattle.answers.specs.declared.Fault.TheVariants.{TableFull}
 use Rattle.numbers.specs.Lists.{Among}
 use Rattle.numbers.specs.Order.{same}
@@ -22,8 +24,7 @@ use Rattle.rows.specs.Tables.{Tables}
 use Rattle.table_update.specs.Tables.{row_at}
 use Rattle.edit_rules.specs.declared.Operation.{Operation}
 use Rattle.edit_rules.specs.declared.Operation.TheVariants.{Create, Change, Remove}
-use Rattle.edit_rules.specs.declared.Edited.{Edited}
-use Rattle.edit_rules.specs.declared.Edited.TheVariants.{Done, Barred, Faulty}
+use Rattle.edit_rules.specs.Types.{Edited}
 use Rattle.edit_rules.specs.TableRows.{row_of, row_index, rows_of}
 use Rattle.edit_rules.specs.Edits.{Edit, Caller, shape_of, is_create, index_of_edit, row_held, legal_caller, is_full, applied, settled}
 use Rattle.edits.specs.Calls.{principal_judged, principal_edit}
@@ -75,14 +76,14 @@ over-one : (l n m : ℕ) → m ≡ n + 1 → ltb l m ≡ leb l n
 over-one l n m e = test-ext _ _ (λ h. le-leb l n (omega (arith, ltb-true l m h))) (λ h. lt-ltb l m (omega (arith, leb-true l n h)))
 
 abbrev full_at_one : SetAnswer
-full_at_one = answer_at (Faulty TableFull) 1
+full_at_one = answer_at (Err (Faulty TableFull)) 1
 
 module _ (ts : Tables) (a : Ascending ts) where
   abbrev lacks : Edit → Table → Bool
   lacks e t = creates_in t e && leb (limit t) (length (rows_of t ts))
 
   room-one : (e : Edit) → Present ts e → (t : Table)
-      → room_in (applied ts e) (e ∷ []) t ≡ cond (lacks e t) full_at_one (answer_at Done 0)
+      → room_in (applied ts e) (e ∷ []) t ≡ cond (lacks e t) full_at_one (answer_at (Ok tt) 0)
   room-one e p t =
       split (creates_in t e)
       (λ k. rw (k, over-one (limit t) (length (rows_of t ts)) (length (rows_of t (applied ts e))) (longer e p t k)))
@@ -101,11 +102,11 @@ module _ (ts : Tables) (a : Ascending ts) where
 
   -- the table of the create alone
   abbrev told : Operation → Table → (Table → Bool) → Table → SetAnswer
-  told o u f t = cond ((is_create o && same_table t u) && f t) full_at_one (answer_at Done 0)
+  told o u f t = cond ((is_create o && same_table t u) && f t) full_at_one (answer_at (Ok tt) 0)
 
   picked : (o : Operation) (u : Table) (f : Table → Bool)
       → or_next (told o u f Context) (or_next (told o u f Mapping) (or_next (told o u f Access) (told o u f View)))
-      ≡ cond (is_create o && f u) full_at_one (answer_at Done 0)
+      ≡ cond (is_create o && f u) full_at_one (answer_at (Ok tt) 0)
   unfolding or_next
   picked Create Context f = split (f Context) (λ k. rw k) (λ k. rw k)
   picked Create Mapping f = split (f Mapping) (λ k. rw k) (λ k. rw k)
@@ -114,7 +115,7 @@ module _ (ts : Tables) (a : Ascending ts) where
   picked Change u f = refl
   picked Remove u f = refl
 
-  room-full : (e : Edit) → Present ts e → room (applied ts e) (e ∷ []) ≡ cond (is_full ts e) full_at_one (answer_at Done 0)
+  room-full : (e : Edit) → Present ts e → room (applied ts e) (e ∷ []) ≡ cond (is_full ts e) full_at_one (answer_at (Ok tt) 0)
   unfolding room is_full
   room-full e p =
       rw (room-one e p Context, room-one e p Mapping, room-one e p Access, room-one e p View)
@@ -126,11 +127,11 @@ module _ (ts : Tables) (a : Ascending ts) where
         → ((principal_set ts c (e ∷ [])).answer ≡ answer_at (settled v ts e).answer (cond (is_done (settled v ts e).answer) 0 1))
         × ((principal_set ts c (e ∷ [])).rows ≡ (settled v ts e).rows)
     unfolding principal_set set_judged is_set or_next
-    one_told Done q l =
+    one_told (Ok tt) q l =
         let r = room-full e (judged-order ts c e q).present in
         split (is_full ts e) (λ k. (rw (l, q, r, k), rw (l, q, r, k))) (λ k. (rw (l, q, r, k), rw (l, q, r, k)))
-    one_told (Barred b) q l = (rw (l, q), rw (l, q))
-    one_told (Faulty f) q l = (rw (l, q), rw (l, q))
+    one_told (Err (Barred b)) q l = (rw (l, q), rw (l, q))
+    one_told (Err (Faulty f)) q l = (rw (l, q), rw (l, q))
 
     pub one-edit : ((principal_set ts c (e ∷ [])).answer
         ≡ answer_at (principal_edit ts c e).answer (cond (legal_caller c) (cond (is_done (principal_edit ts c e).answer) 0 1) 0))
@@ -146,10 +147,10 @@ record Parts (ts : Tables) (c : Caller) (es : List Edit) : Type 0 where
   pub set : is_set es ≡ true
   pub judged : is_done (first_refused (principal_judged ts c) 1 es).answer ≡ true
   pub roomy : is_done (room (applied_all ts es) es).answer ≡ true
-  pub told : (principal_set ts c es).answer ≡ answer_at Done 0
+  pub told : (principal_set ts c es).answer ≡ answer_at (Ok tt) 0
   pub left : (principal_set ts c es).rows ≡ applied_all ts es
 
-parts : (ts : Tables) (c : Caller) (es : List Edit) → (principal_set ts c es).answer.answer ≡ Done → Parts ts c es
+parts : (ts : Tables) (c : Caller) (es : List Edit) → (principal_set ts c es).answer.answer ≡ (Ok tt) → Parts ts c es
 unfolding principal_set set_judged
 parts ts c es d =
     split (is_set es)

@@ -7,6 +7,8 @@ use mathlib.Core.Option.{Option, none, some, map}
 use Prim.Native.Nat.{ℕ}
 use lib.Dec.{ltb}
 use lib.ListN.{length-map}
+use Rattle.std.specs.Prelude.{Ok, Err}
+use Rattle.answers.specs.declared.Refusal.TheVariants.{Faulty}
 use Rattle.answers.specs.declared.Fault.TheVariants.{NotSound, OutOfRange, NotASet}
 use Rattle.numbers.specs.BigEndian.{Octets}
 use Rattle.numbers.proofs.Bools.{split, clash, cond-false}
@@ -18,8 +20,7 @@ use Rattle.rows.specs.Tables.{Tables}
 use Rattle.image.specs.Store.{is_sound, held}
 use Rattle.table_update.specs.Exchange.{table_rows}
 use Rattle.table_update.proofs.Stores.{store-sound}
-use Rattle.edit_rules.specs.declared.Edited.{Edited}
-use Rattle.edit_rules.specs.declared.Edited.TheVariants.{Done, Faulty}
+use Rattle.edit_rules.specs.Types.{Edited}
 use Rattle.edit_rules.specs.TableRows.{row_of}
 use Rattle.edit_rules.specs.Edits.{Edit, Caller, Outcome, edit_of, shape_of, legal_caller, edited_number}
 use Rattle.edit_rules.proofs.Outcomes.{tables, rows_in_lem}
@@ -44,15 +45,15 @@ module _ (ts : Tables) (c : Caller) (es : List Edit) where
   unfolding principal_set
   refused-is {a} e d = (e, cond-false _ _ (ap (λ (x : SetAnswer). is_done x.answer) e ∙ d))
 
-  pub accepted-is : set_judged ts c es ≡ answer_at Done 0 → ((principal_set ts c es).answer ≡ answer_at Done 0) × ((principal_set ts c es).rows ≡ applied_all ts es)
+  pub accepted-is : set_judged ts c es ≡ answer_at (Ok tt) 0 → ((principal_set ts c es).answer ≡ answer_at (Ok tt) 0) × ((principal_set ts c es).rows ≡ applied_all ts es)
   unfolding principal_set
   accepted-is e = (e, rw e)
 
-  pub not-a-set : is_set es ≡ false → set_judged ts c es ≡ answer_at (Faulty NotASet) 0
+  pub not-a-set : is_set es ≡ false → set_judged ts c es ≡ answer_at (Err (Faulty NotASet)) 0
   unfolding set_judged
   not-a-set s = rw s
 
-  pub not-a-caller : is_set es ≡ true → legal_caller c ≡ false → set_judged ts c es ≡ answer_at (Faulty OutOfRange) 0
+  pub not-a-caller : is_set es ≡ true → legal_caller c ≡ false → set_judged ts c es ≡ answer_at (Err (Faulty OutOfRange)) 0
   unfolding set_judged
   not-a-caller s l = rw (s, l)
 
@@ -74,17 +75,17 @@ held-limited w e t =
     rw (h.1, rows_in_lem (store_rows w) t, length-map (table_rows t w) (row_of t)) ((store-sound w h.0).few t)
 
 module _ (c : Caller) (es : List Edit) (w : List ℕ) where
-  set-unsound : is_sound w ≡ false → PrincipalSets c es w w (answer_at (Faulty NotSound) 0)
+  set-unsound : is_sound w ≡ false → PrincipalSets c es w w (answer_at (Err (Faulty NotSound)) 0)
   unfolding held
   set-unsound h = record { edits = edits-unsound (set_outcome c es) w h; position_is = sym (ap (position_in c es) (cond-false _ _ h)) }
 
-  pub set-unsound-as : is_sound w ≡ false → {r : SetAnswer} → r ≡ answer_at (Faulty NotSound) 0 → PrincipalSets c es w w r
+  pub set-unsound-as : is_sound w ≡ false → {r : SetAnswer} → r ≡ answer_at (Err (Faulty NotSound)) 0 → PrincipalSets c es w w r
   set-unsound-as h e = subst (λ v. PrincipalSets c es w w v) (sym e) (set-unsound h)
 
   module _ {ts : Tables} (e : held w ≡ some ts) where
     -- by the answer, and the tables that stand afterwards
     promised : {a : SetAnswer} {after : List ℕ} → (principal_set ts c es).answer ≡ a → held after ≡ some (principal_set ts c es).rows
-        → ((a.answer ≡ Done → ⊥) → after ≡ w) → PrincipalSets c es w after a
+        → ((a.answer ≡ (Ok tt) → ⊥) → after ≡ w) → PrincipalSets c es w after a
     promised {a} {after} p r k =
         let q : a.answer ≡ answered (set_outcome c es) (held w) =
         sym (ap (answered (set_outcome c es)) e ∙ ap (λ (x : SetAnswer). x.answer) p) in
@@ -96,8 +97,8 @@ module _ (c : Caller) (es : List Edit) (w : List ℕ) where
     pub set-refused : {a : SetAnswer} → set_judged ts c es ≡ a → is_done a.answer ≡ false → PrincipalSets c es w w a
     set-refused {a} j d = let r = refused-is ts c es j d in promised r.0 (e ∙ ap some (sym r.1)) (λ n. refl)
 
-    pub set-accepted : set_judged ts c es ≡ answer_at Done 0 → {after : List ℕ} → held after ≡ some (applied_all ts es)
-        → PrincipalSets c es w after (answer_at Done 0)
+    pub set-accepted : set_judged ts c es ≡ answer_at (Ok tt) 0 → {after : List ℕ} → held after ≡ some (applied_all ts es)
+        → PrincipalSets c es w after (answer_at (Ok tt) 0)
     set-accepted j h = let r = accepted-is ts c es j in promised r.0 (h ∙ ap some (sym r.1)) (λ n. absurd (n refl))
 
 -- ---- nothing stands against a set
@@ -106,11 +107,11 @@ or-next-last : (a b : SetAnswer) → is_done (or_next a b).answer ≡ true → o
 unfolding or_next
 or-next-last a b h = let d = or-next-done a b h in rw d.0
 
-room-last : (after : Tables) (es : List Edit) (t : Table) → is_done (room_in after es t).answer ≡ true → room_in after es t ≡ answer_at Done 0
+room-last : (after : Tables) (es : List Edit) (t : Table) → is_done (room_in after es t).answer ≡ true → room_in after es t ≡ answer_at (Ok tt) 0
 room-last after es t h =
     split (ltb 0 (first_create t 1 es) && is_over after t) (λ k. clash (rw k at h) refl) (λ k. rw k)
 
-pub room-none : (after : Tables) (es : List Edit) → is_done (room after es).answer ≡ true → room after es ≡ answer_at Done 0
+pub room-none : (after : Tables) (es : List Edit) → is_done (room after es).answer ≡ true → room after es ≡ answer_at (Ok tt) 0
 unfolding room
 room-none after es h =
     let m = (or-next-done (room_in after es Context) _ h).1 in
@@ -214,7 +215,7 @@ module _ (c : Caller) (es : List Edit) (bs : AllOctets es) (w : List ℕ) (b : O
       let y = all_made (of_shape Row es) (octets-shape Row es bs) x.after x.octets in
       record {
         left = y.after;
-        answered = answer_at Done 0;
+        answered = answer_at (Ok tt) 0;
         promise = set-accepted c es w e (room-judged ts c es s l d ∙ room-none (applied_all ts es) es k)
             (makes-all c es w e bs s d k x.after y.after x.makes y.makes);
         octets = y.octets;

@@ -2,6 +2,7 @@
 -- handed bytes, as a lent slice holds them. Assumes nothing.
 use Rattle.std.specs.Prelude.{◌≡◌, Bool, false, cond, ◌&&◌, List, [], ◌∷◌, ℕ, ◌≤◌, length}
 use Rattle.std.proofs.Math.Option.{Option, none, some}
+use Rattle.std.specs.Prelude.{Ok}
 use Rattle.numbers.specs.Lists.{any, Among}
 use Rattle.numbers.specs.Order.{same}
 use Rattle.rows.specs.declared.Shape.{Shape}
@@ -11,7 +12,6 @@ use Rattle.rows.specs.Rows.{limit}
 use Rattle.rows.specs.Tables.{Tables}
 use Rattle.image.specs.Store.{held}
 use Rattle.table_update.specs.Tables.{row_at}
-use Rattle.edit_rules.specs.declared.Edited.TheVariants.{Done}
 use Rattle.edit_rules.specs.TableRows.{row_of, row_index, rows_of}
 use Rattle.edit_rules.specs.Edits.{Edit, Caller, shape_of, index_of_edit, row_held, legal_caller}
 use Rattle.edits.specs.Calls.{principal_edit}
@@ -34,8 +34,8 @@ pub record Exactly (ts : Tables) (es : List Edit) (after : Tables) : Type 0 wher
 
 pub record AllOrNone : Type 0 where
   pub accepted : (w : List ℕ) (ts : Tables) → held w ≡ some ts → (c : Caller) (es : List Edit) → AllOctets es
-      → (principal_set ts c es).answer.answer ≡ Done
-      → Exactly ts es (principal_set ts c es).rows × ((principal_set ts c es).answer ≡ answer_at Done 0)
+      → (principal_set ts c es).answer.answer ≡ (Ok tt)
+      → Exactly ts es (principal_set ts c es).rows × ((principal_set ts c es).answer ≡ answer_at (Ok tt) 0)
       × ((t : Table) → length (rows_of t (principal_set ts c es).rows) ≤ limit t)
   -- "the first refusal .. comes back .., and nothing changes"
   pub refused : (ts : Tables) (c : Caller) (es : List Edit) → is_done (principal_set ts c es).answer.answer ≡ false → (principal_set ts c es).rows ≡ ts

@@ -2,6 +2,8 @@
 -- removals first, so that no table is over its limit on the way. Assumes nothing.
 use Rattle.std.specs.Prelude.{◌≡◌, Bool, true, false, cond, ◌&&◌, List, [], ◌∷◌, ℕ, suc, ◌+◌, ltb, length, take}
 use Rattle.std.proofs.Math.Option.{map}
+use Rattle.std.specs.Prelude.{Ok, Err}
+use Rattle.answers.specs.declared.Refusal.TheVariants.{Faulty}
 use Rattle.answers.specs.declared.Fault.TheVariants.{TableFull}
 use Rattle.numbers.specs.Lists.{keep}
 use Rattle.numbers.specs.Order.{same}
@@ -15,7 +17,6 @@ use Rattle.image.specs.Store.{held}
 use Rattle.table_update.specs.Exchange.{one_if}
 use Rattle.edit_rules.specs.declared.Operation.{Operation}
 use Rattle.edit_rules.specs.declared.Operation.TheVariants.{Create, Change, Remove}
-use Rattle.edit_rules.specs.declared.Edited.TheVariants.{Done, Faulty}
 use Rattle.edit_rules.specs.Edits.{Edit, shape_of}
 use Rattle.edits.specs.Calls.{owner_edit}
 use Rattle.set_rules.specs.declared.SetAnswer.{SetAnswer}
@@ -52,7 +53,7 @@ weight t p (e ∷ es) = weighed t p e (weight t (suc p) es)
 -- of a table of n rows
 unfoldable pub room_weighed : Table → ℕ → Weight → SetAnswer
 room_weighed t n w =
-    cond (ltb 0 w.first && ltb (limit t + w.removals) (n + w.creates)) (answer_at (Faulty TableFull) w.first) (answer_at Done 0)
+    cond (ltb 0 w.first && ltb (limit t + w.removals) (n + w.creates)) (answer_at (Err (Faulty TableFull)) w.first) (answer_at (Ok tt) 0)
 
 -- by the number of rows of each table
 unfoldable pub counted_room : (Table → ℕ) → List Edit → SetAnswer

@@ -1,6 +1,8 @@
 -- A set of edits by one principal (document 02, ticket 7): when it is one, how it is judged, room, and the rows that it leaves. One definition of answer,
 -- position and rows, whatever its length. Assumes nothing.
 use Rattle.std.specs.Prelude.{Bool, true, false, cond, not, ◌&&◌, List, [], ◌∷◌, ℕ, suc, eqb, ltb, length, take}
+use Rattle.std.specs.Prelude.{Ok, Err}
+use Rattle.answers.specs.declared.Refusal.TheVariants.{Barred, Faulty}
 use Rattle.answers.specs.declared.Fault.TheVariants.{OutOfRange, TableFull, NotASet}
 use Rattle.numbers.specs.Lists.{any, is_none}
 use Rattle.numbers.specs.Order.{same}
@@ -10,8 +12,7 @@ use Rattle.rows.specs.Fields.{fronts, span, within}
 use Rattle.rows.specs.Rows.{key_fields, limit}
 use Rattle.rows.specs.Tables.{Tables}
 use Rattle.table_update.specs.Exchange.{position}
-use Rattle.edit_rules.specs.declared.Edited.{Edited}
-use Rattle.edit_rules.specs.declared.Edited.TheVariants.{Done, Barred, Faulty}
+use Rattle.edit_rules.specs.Types.{Edited}
 use Rattle.edit_rules.specs.TableRows.{rows_of}
 use Rattle.edit_rules.specs.Edits.{Edit, Caller, is_create, legal_caller, applied}
 use Rattle.edits.specs.Calls.{principal_judged}
@@ -48,9 +49,9 @@ abbrev pub answer_at : Edited → ℕ → SetAnswer
 answer_at r p = record { answer = r; position = p }
 
 abbrev pub is_done : Edited → Bool
-is_done Done = true
-is_done (Barred c) = false
-is_done (Faulty f) = false
+is_done (Ok tt) = true
+is_done (Err (Barred c)) = false
+is_done (Err (Faulty f)) = false
 
 -- the first refusal of two
 unfoldable pub or_next : SetAnswer → SetAnswer → SetAnswer
@@ -59,7 +60,7 @@ or_next a b = cond (is_done a.answer) b a
 -- ---- "the first refusal in set order comes back with its position": of the edits from position p on
 
 abbrev pub first_refused : (Edit → Edited) → ℕ → List Edit → SetAnswer
-first_refused judged p [] = answer_at Done 0
+first_refused judged p [] = answer_at (Ok tt) 0
 first_refused judged p (e ∷ es) = or_next (answer_at (judged e) p) (first_refused judged (suc p) es)
 
 -- ---- applied, one after the other
@@ -83,7 +84,7 @@ abbrev pub is_over : Tables → Table → Bool
 is_over after t = ltb (limit t) (length (rows_of t after))
 
 abbrev pub room_in : Tables → List Edit → Table → SetAnswer
-room_in after es t = cond (ltb 0 (first_create t 1 es) && is_over after t) (answer_at (Faulty TableFull) (first_create t 1 es)) (answer_at Done 0)
+room_in after es t = cond (ltb 0 (first_create t 1 es) && is_over after t) (answer_at (Err (Faulty TableFull)) (first_create t 1 es)) (answer_at (Ok tt) 0)
 
 unfoldable pub room : Tables → List Edit → SetAnswer
 room after es = or_next (room_in after es Context) (or_next (room_in after es Mapping) (or_next (room_in after es Access) (room_in after es View)))
@@ -94,8 +95,8 @@ room after es = or_next (room_in after es Context) (or_next (room_in after es Ma
 unfoldable pub set_judged : Tables → Caller → List Edit → SetAnswer
 set_judged ts c es =
     cond (is_set es)
-    (cond (legal_caller c) (or_next (first_refused (principal_judged ts c) 1 es) (room (applied_all ts es) es)) (answer_at (Faulty OutOfRange) 0))
-    (answer_at (Faulty NotASet) 0)
+    (cond (legal_caller c) (or_next (first_refused (principal_judged ts c) 1 es) (room (applied_all ts es) es)) (answer_at (Err (Faulty OutOfRange)) 0))
+    (answer_at (Err (Faulty NotASet)) 0)
 
 pub record SetOutcome : Type 0 where
   pub answer : SetAnswer

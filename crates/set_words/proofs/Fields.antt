@@ -6,11 +6,11 @@ use mathlib.Core.Option.{Option, none, some}
 use Prim.Native.Nat.{ℕ, ◌*◌, ◌≤◌}
 use native.Mathlib.Omega.{arith}
 use lib.ListN.{length, take}
+use Rattle.std.specs.Prelude.{Some, None}
 use Rattle.text_words.specs.Words.{words_from}
 use Rattle.text_words.proofs.Kept.{laid_kept}
 use Rattle.text_rows.specs.declared.Slot.{Slot}
-use Rattle.text_rows.specs.declared.Found.{Found}
-use Rattle.text_rows.specs.declared.Found.TheVariants.{At, Malformed}
+use Rattle.text_rows.specs.Types.{Found}
 use Rattle.line_fields.specs.declared.Kind.{Kind}
 use Rattle.line_fields.specs.declared.Kind.TheVariants.{Edit}
 use Rattle.line_fields.specs.Kinds.{Taken, taken, kind_said}
@@ -26,11 +26,11 @@ pub record Reads (k : Kind) (s : Slot) (next at : ℕ) (line bytes parts : List 
   pub within : Within s (4 * next)
   pub lent : Lent line next bytes parts
 
-found-lies : {r : Found} (from at : ℕ) (line : List ℕ) {said : Option Taken} {s : Slot} {next : ℕ} → r ≡ At s next → Finds r from at line said
+found-lies : {r : Found} (from at : ℕ) (line : List ℕ) {said : Option Taken} {s : Slot} {next : ℕ} → r ≡ Some (s, next) → Finds r from at line said
     → Lies s next from at line said
 found-lies from at line e f = rw e at f
 
-pub field-none : {r : Found} (from at : ℕ) (line : List ℕ) {said : Option Taken} → r ≡ Malformed → Finds r from at line said → said ≡ none
+pub field-none : {r : Found} (from at : ℕ) (line : List ℕ) {said : Option Taken} → r ≡ None → Finds r from at line said → said ≡ none
 field-none from at line e f = rw e at f
 
 module _ (k : Kind) {line : List ℕ} {at : ℕ} {bytes parts bytes' parts' : List ℕ} (l : Lent line at bytes parts)
@@ -39,7 +39,7 @@ module _ (k : Kind) {line : List ℕ} {at : ℕ} {bytes parts bytes' parts' : Li
   pub field-into : field_into k line (words_from at line) (buffers bytes parts) ≡ buffers bytes' parts'
   field-into = ap (λ n. laid_in (in_parts k) (4 * n) (kind_front k (words_from at line)) (buffers bytes parts)) (place-from at line l.at_in) ∙ sym lays
 
-  pub field-reads : {r : Found} {s : Slot} {next : ℕ} → r ≡ At s next → Finds r (4 * at) at line (kind_said k (words_from at line))
+  pub field-reads : {r : Found} {s : Slot} {next : ℕ} → r ≡ Some (s, next) → Finds r (4 * at) at line (kind_said k (words_from at line))
       → length bytes' ≡ length bytes → length parts' ≡ length parts → Reads k s next at line bytes' parts'
   field-reads e f eb ep =
       let y = found-lies (4 * at) at line e f in record {

@@ -6,16 +6,16 @@ use mathlib.Core.Option.{Option, none, some, bind}
 use Prim.Native.Nat.{ℕ, ◌≤◌, ◌<◌}
 use lib.ListN.{length}
 use borrow.Author.Tests.{le-leb, lt-leb}
+use Rattle.std.specs.Prelude.{Some, None}
 use Rattle.numbers.specs.Order.{same}
 use Rattle.edit_rules.specs.Edits.{Edit, Caller}
 use Rattle.calls.specs.Does.{by_set}
-use Rattle.text_words.specs.declared.Word.{Word}
+use Rattle.text_words.specs.Types.{Word}
 use Rattle.text_words.specs.Words.{longest, between}
 use Rattle.text_words.proofs.WordsFrom.{WordAt, from_start}
-use Rattle.text_rows.specs.declared.Slot.{Slot}
 use Rattle.call_verbs.specs.Calls.{calls}
+use Rattle.set_words.specs.Types.{PrincipalRead}
 use Rattle.set_words.specs.declared.Principal.{Principal}
-use Rattle.set_words.specs.declared.Principal.TheVariants.{Said, Malformed}
 use Rattle.set_words.specs.SetWords.{Calling, calling, edits_said, caller_said, set_said, set_word, set_words}
 use Rattle.set_words.specs.Reading.{Begun, Begins, Called, Calls}
 
@@ -36,20 +36,20 @@ module _ {line : List ℕ} {end : ℕ} (w : WordAt 0 line end) (h : length line 
 
 -- as the code answers it
 module _ {r : Word} (line : List ℕ) where
-  pub word-begun : {end : ℕ} → r ≡ Word.To end → Begins r line → Begun end line
+  pub word-begun : {end : ℕ} → r ≡ Some end → Begins r line → Begun end line
   word-begun e b = rw e at b
 
-  pub word-other : r ≡ Word.Missing → Begins r line → set_words line ≡ none
+  pub word-other : r ≡ None → Begins r line → set_words line ≡ none
   word-other e b = rw e at b
 
 -- ---- who calls, as the code answers it, and the set
 
-module _ {r : Principal} (line bytes : List ℕ) {said : Option Calling} where
-  pub caller-called : {model : ℕ} {name : Slot} {level next : ℕ} → r ≡ Said model name level next → Calls r line bytes said
-      → Called model name level next line bytes said
+module _ {r : PrincipalRead} (line bytes : List ℕ) {said : Option Calling} where
+  pub caller-called : {p : Principal} → r ≡ Some p → Calls r line bytes said
+      → Called p.model p.name p.level p.next line bytes said
   caller-called e c = rw e at c
 
-  pub caller-none : r ≡ Malformed → Calls r line bytes said → said ≡ none
+  pub caller-none : r ≡ None → Calls r line bytes said → said ≡ none
   caller-none e c = rw e at c
 
 module _ (ws : List (List ℕ)) where

@@ -1,3 +1,4 @@
+pub mod Types
 pub mod SetWords
 pub mod Reading
 pub mod Buffers

@@ -1,6 +1,7 @@
 -- What the code reads of a set of edits: the principal, and of each edit where its bytes lie. Assumes nothing.
 use Rattle.std.specs.Prelude.{◌≡◌, true, false, List, [], ◌∷◌, ℕ, suc, ◌+◌, ◌*◌, ◌≤◌, ◌<◌, length, set, replicate}
 use Rattle.std.proofs.Math.Option.{Option, none, some}
+use Rattle.std.specs.Prelude.{Some, None}
 use Rattle.numbers.specs.Order.{same}
 use Rattle.edit_rules.specs.Edits.{Edit, caller_of}
 use Rattle.set_rules.specs.declared.SetEdit.{SetEdit}
@@ -8,10 +9,10 @@ use Rattle.set_rules.specs.declared.EditSet.{EditSet}
 use Rattle.set_rules.specs.Sets.{most_edits}
 use Rattle.set_rules.specs.Handed.{no_edit, edits_of}
 use Rattle.text_words.specs.Words.{longest, words_from}
-use Rattle.text_words.specs.declared.Word.{Word}
+use Rattle.text_words.specs.Types.{Word}
 use Rattle.text_rows.specs.declared.Slot.{Slot}
 use Rattle.line_fields.specs.Slots.{part_in, Within}
-use Rattle.set_words.specs.declared.Principal.{Principal}
+use Rattle.set_words.specs.Types.{PrincipalRead}
 use Rattle.set_words.specs.declared.Behind.{Behind}
 use Rattle.set_words.specs.declared.ReadSet.{ReadSet}
 use Rattle.set_words.specs.SetWords.{set_words, separator, Calling, calling}
@@ -24,8 +25,8 @@ pub record Begun (end : ℕ) (line : List ℕ) : Type 0 where
   pub inside : end ≤ length line
 
 abbrev pub Begins : Word → List ℕ → Type 0
-Begins (Word.To end) line = Begun end line
-Begins Word.Missing line = set_words line ≡ none
+Begins (Some end) line = Begun end line
+Begins None line = set_words line ≡ none
 
 -- ---- the principal: its name lies in front of what the words from `next` on make
 
@@ -34,9 +35,9 @@ pub record Called (model : ℕ) (name : Slot) (level next : ℕ) (line bytes : L
   pub within : Within name (4 * next)
   pub next_in : next ≤ suc (length line)
 
-abbrev pub Calls : Principal → (line bytes : List ℕ) → Option Calling → Type 0
-Calls (Principal.Said model name level next) line bytes said = Called model name level next line bytes said
-Calls Principal.Malformed line bytes said = said ≡ none
+abbrev pub Calls : PrincipalRead → (line bytes : List ℕ) → Option Calling → Type 0
+Calls (Some p) line bytes said = Called p.model p.name p.level p.next line bytes said
+Calls None line bytes said = said ≡ none
 
 -- ---- what stands behind an edit: `;` and the next edit, or a word over
 

@@ -14,54 +14,54 @@ use edit_rules::Operation;
 use line_fields::Kind;
 use rows::Table;
 use set_rules::{EditSet, MOST_EDITS, SetEdit};
-use text_rows::{Found, Slot};
-use text_words::{LONGEST_LINE, Word};
+use text_rows::Slot;
+use text_words::LONGEST_LINE;
 
 // ---- the word `set`
 
 // Where it ends, at the front of a line that is not too long.
-pub fn set_end(line: &[u8]) -> Word
+pub fn set_end(line: &[u8]) -> Option<usize>
     ensures { Begins result line.now }
 {
     if LONGEST_LINE < line.len() {
-        return Word::Missing;
+        return None;
     }
     let end = text_words::end_of(line, 0, b' ');
     if octets::are_same(&line[0..end], b"set") {
-        return Word::To(end);
+        return Some(end);
     }
-    Word::Missing
+    None
 }
 
 // ---- the principal
 
-// A principal's model, the slot of its name, its level, and where the next word begins.
+// A principal as it is read: its numbers, the slot of its name, and the place of the next word.
 #[derive(Clone, Copy)]
-pub enum Principal {
-    Said(u32, Slot, u32, usize),
-    Malformed,
+pub struct Principal {
+    pub model: u32,
+    pub name: Slot,
+    pub level: u32,
+    pub next: usize,
 }
 
 // The principal that the words from the one that begins at `at` on say.
-pub fn read_caller(line: &[u8], at: usize, bytes: &mut [u8], parts: &mut [u32]) -> Principal
+pub fn read_caller(line: &[u8], at: usize, bytes: &mut [u8], parts: &mut [u32]) -> Option<Principal>
     requires { Lent line.now at bytes.old parts.old }
     ensures calls { Calls result line.now bytes.new (caller_said (words_from at line.now)) }
     ensures lays { buffers bytes.new parts.new
         ≡ fields_into caller_kinds line.now (words_from at line.now) (buffers bytes.old parts.old) }
 {
-    let Found::At(m, name_at) = line_fields::field(Kind::Number, line, at, bytes, parts) else {
-        return Principal::Malformed;
-    };
+    let (m, name_at) = line_fields::field(Kind::Number, line, at, bytes, parts)?;
     let model = line_fields::number_in(parts, m);
-    let Found::At(name, level_at) = line_fields::field(Kind::Name, line, name_at, bytes, parts)
-    else {
-        return Principal::Malformed;
-    };
-    let Found::At(l, next) = line_fields::field(Kind::Number, line, level_at, bytes, parts) else {
-        return Principal::Malformed;
-    };
+    let (name, level_at) = line_fields::field(Kind::Name, line, name_at, bytes, parts)?;
+    let (l, next) = line_fields::field(Kind::Number, line, level_at, bytes, parts)?;
     let level = line_fields::number_in(parts, l);
-    Principal::Said(model, name, level, next)
+    Some(Principal {
+        model,
+        name,
+        level,
+        next,
+    })
 }
 
 // ---- the edits
@@ -77,7 +77,7 @@ pub enum Behind {
 fn behind_edit(line: &[u8], at: usize) -> Behind
     ensures { Stands result at line.now }
 {
-    let Word::To(end) = text_words::word_at(line, at) else {
+    let Some(end) = text_words::word_at(line, at) else {
         return Behind::Nothing;
     };
     if octets::are_same(&line[at..end], b";") {
@@ -148,7 +148,7 @@ pub fn read_edits(line: &[u8], at: usize, bytes: &mut [u8], parts: &mut [u32]) -
     }
     let mut next = at;
     loop {
-        let Found::At(e, end) = line_fields::field(Kind::Edit, line, next, bytes, parts) else {
+        let Some((e, end)) = line_fields::field(Kind::Edit, line, next, bytes, parts) else {
             return ReadSet { whole: false, set };
         };
         set = with_edit(set, e);

@@ -12,11 +12,12 @@ use lib.Dec.{eqb, ltb}
 use lib.ListN.{length, take, drop, get_or, set, length-append, length-drop, length-set, take-append-drop, get_or-map}
 use lib.Seq.{drop-cons, drop-drop, length-take-le, set-append_left}
 use borrow.Author.Tests.{lt-ltb, eq-eqb, ne_eqb, eqb-true}
+use Rattle.std.specs.Int.{from_bool}
 use Rattle.numbers.proofs.Bools.{split, test-ext}
 use Rattle.rows.specs.declared.Table.{Table}
 use Rattle.numbers.specs.BigEndian.{Octets}
 use Rattle.image_layout.specs.declared.Extent.{Extent}
-use Rattle.image_layout.specs.Layout.{total, lengths_in, rows_in, end_of, counts_size, header, middle, row_count, image_end, most_rows}
+use Rattle.image_layout.specs.Layout.{total, lengths_in, rows_in, end_of, counts_size, header, middle, row_count, image_end, most_rows, most_pair}
 use Rattle.splice.specs.Splice.{spliced_two}
 use Rattle.table_update.specs.declared.Place.{Place}
 use Rattle.table_update.specs.Exchange.{position, count_at, table_rows, one_if, TablePlace, exchanged, one_row, Exchanges}
@@ -60,6 +61,14 @@ module _ {A : Type 0} where
 pub one-if-most : (b : Bool) → one_if b ≤ 1
 one-if-most true = omega arith
 one-if-most false = omega arith
+
+-- as the code counts them
+pub held-one : {n : ℕ} (b : Bool) → n ≡ from_bool b → n ≡ one_if b
+held-one true e = e
+held-one false e = e
+
+pub held-most : {n : ℕ} (b : Bool) → n ≡ from_bool b → n ≤ 1
+held-most b e = omega (arith, held-one b e, one-if-most b)
 
 pub joined-one : (row : List ℕ) → concatenated (one_row row) ≡ row
 joined-one [] = refl
@@ -256,16 +265,14 @@ module _ {t : Table} {w : List ℕ} {x : Extent} {p : Place} {end : ℕ} (b : Oc
       }
 
   -- as the code does it, with one row or none
-  module _ (row : List ℕ) {u : List ℕ} {has had at : ℕ}
-      (a : u ≡ spliced_two w (x.lengths + 2 * p.row) (2 * had) (take (2 * has - 0) (length row / 256 ∷ length row % 256 ∷ [])) p.from
-      (p.end - p.from) end row) where
+  module _ (row : List ℕ) {u head : List ℕ} {has had at : ℕ} (g : head ≡ length row / 256 % 256 ∷ length row % 256 ∷ []) (r : length row ≤ most_pair)
+      (a : u ≡ spliced_two w (x.lengths + 2 * p.row) (2 * had) (take (2 * has) head) p.from (p.end - p.from) end row) where
     pub exchanges-row : had ≡ one_if p.present → has ≡ one_if (ltb 0 (length row)) → at ≡ count_at t → length u ≡ length w
         → Exchanges t p.row (one_if p.present) (one_row row) w (set u at (x.count + has - had))
     exchanges-row d e f l =
         let n : length (one_row row) ≡ has = count-one row ∙ sym e in
-        let m : 2 * has - 0 ≡ 2 * one_if (ltb 0 (length row)) = omega (arith, e) in
-        let h : take (2 * has - 0) (length row / 256 ∷ length row % 256 ∷ []) ≡ heads (one_row row) =
-        ap (λ k. take k (length row / 256 ∷ length row % 256 ∷ [])) m ∙ sym (heads-one row) in
+        let b : length row / 256 % 256 ≡ length row / 256 = omega arith in
+        let h : take (2 * has) head ≡ heads (one_row row) = ap (λ k. take (2 * has) k) g ∙ rw (b, e) (sym (heads-one row)) in
         let k : u ≡ spliced_two w (x.lengths + 2 * p.row) (2 * one_if p.present) (heads (one_row row)) p.from (p.end - p.from) end row = rw
         (h, d) at a in
         exchanges (one_row row) (x.count + has - had) (omega (arith, count-one row, one-if-most (ltb 0 (length row)))) (omega (arith, q.place_in.row_in))

@@ -79,7 +79,7 @@ module _ {t : Table} {w : List ℕ} {x : Extent} {p : Place} {end : ℕ} (b : Oc
   has = one_if (ltb 0 (length row))
 
   abbrev head : List ℕ
-  head = take (2 * has - 0) (length row / 256 ∷ length row % 256 ∷ [])
+  head = take (2 * has) (length row / 256 ∷ length row % 256 ∷ [])
 
   abbrev length_at : ℕ
   length_at = x.lengths + 2 * p.row
@@ -97,7 +97,7 @@ module _ {t : Table} {w : List ℕ} {x : Extent} {p : Place} {end : ℕ} (b : Oc
   there = swap b q
 
   head-length : length head ≡ 2 * has
-  head-length = omega (arith, length-take (2 * has - 0) (length row / 256 ∷ length row % 256 ∷ []), one-if-most (ltb 0 (length row)))
+  head-length = omega (arith, length-take (2 * has) (length row / 256 ∷ length row % 256 ∷ []), one-if-most (ltb 0 (length row)))
 
   moved_length : length moved ≡ length w
   moved_length =
@@ -114,7 +114,10 @@ module _ {t : Table} {w : List ℕ} {x : Extent} {p : Place} {end : ℕ} (b : Oc
       simp (length-append, a, c, g, head-length, length-drop) (omega (arith, s.place_is, s.from_is, s.had_is, s.end_is, s.gone_is))
 
   pub after-exchanges : Exchanges t p.row (one_if p.present) (one_row row) w after
-  after-exchanges = exchanges-row b q row refl refl refl refl moved_length
+  after-exchanges =
+      let n = length row in
+      let e : n / 256 ≡ n / 256 % 256 = omega (arith, r.length_said) in
+      exchanges-row b q row (ap (λ k. k ∷ n % 256 ∷ []) e) r.length_said refl refl refl refl moved_length
 
   pub after-octets : Octets after
   after-octets =
@@ -122,7 +125,7 @@ module _ {t : Table} {w : List ℕ} {x : Extent} {p : Place} {end : ℕ} (b : Oc
       octets-set moved (count_at t) (x.count + has - had)
       (octets-append (take length_at w) _ (octets-take length_at w b)
       (octets-append head _
-      (octets-take (2 * has - 0) (n / 256 ∷ n % 256 ∷ []) (octets-two (n / 256) (n % 256) (omega (arith, r.length_said)) (omega arith)))
+      (octets-take (2 * has) (n / 256 ∷ n % 256 ∷ []) (octets-two (n / 256) (n % 256) (omega (arith, r.length_said)) (omega arith)))
       (octets-append (take (p.from - (length_at + 2 * had)) (drop (length_at + 2 * had) w)) _
       (octets-take (p.from - (length_at + 2 * had)) (drop (length_at + 2 * had) w) (octets-drop (length_at + 2 * had) w b))
       (octets-append row _ d

@@ -13,8 +13,8 @@ use Rattle.numbers.specs.Lists.{every}
 use Rattle.numbers.specs.Order.{same, before}
 use Rattle.numbers.proofs.Bools.{clash, is_true, and_left, and_right}
 use Rattle.numbers.proofs.Orders.{same_refl, same-sym, before-irrefl, before-asym, before-not-same}
-use Rattle.octets.specs.declared.Order.{Order}
-use Rattle.octets.specs.declared.Order.TheVariants.{Below, Equal, Above}
+use Rattle.std.specs.declared.cmp.Ordering.{Ordering}
+use Rattle.std.specs.declared.cmp.Ordering.TheVariants.{Less, Equal, Greater}
 use Rattle.octets.specs.Order.{order}
 use Rattle.octets.proofs.Orders.{order_below, order-equal, order-above}
 use Rattle.image_layout.specs.declared.Extent.{Extent}
@@ -112,7 +112,7 @@ search-end {w} {x} {key} {lo} {hi} {o} k h =
 
 -- the row in the middle stands to the key as d says
 module _ {w : List ℕ} {x : Extent} {key : List ℕ} (u : Rising key (rows_in w x)) {lo hi o : ℕ} (k : Search w x key lo hi o) {r : Middle}
-    (m : MiddleRow w x lo hi r) {d : Order} (e : d ≡ order (front key (piece w r.from r.end)) key) where
+    (m : MiddleRow w x lo hi r) {d : Ordering} (e : d ≡ order (front key (piece w r.from r.end)) key) where
   abbrev row : List ℕ
   row = front key (piece w r.from r.end)
 
@@ -125,7 +125,7 @@ module _ {w : List ℕ} {x : Extent} {key : List ℕ} (u : Rising key (rows_in w
       × (is_held key (rows_in w x) ≡ is_held key (piece w r.from r.end ∷ drop (r.row + 1) (rows_in w x)))
   at_row a = passed key a r.row (rows_in w x) u here
 
-  pub search-up : d ≡ Below → Search w x key (r.row + 1) hi r.end
+  pub search-up : d ≡ Less → Search w x key (r.row + 1) hi r.end
   unfolding rows_before is_held
   search-up z =
       let b : before row key ≡ true = order_below row key (sym e ∙ z) in
@@ -153,7 +153,7 @@ module _ {w : List ℕ} {x : Extent} {key : List ℕ} (u : Rising key (rows_in w
         present_is = sym (rw b at c.1 ∙ rw y (same_refl key));
       }
 
-  pub search-down : d ≡ Above → Search w x key lo r.row o
+  pub search-down : d ≡ Greater → Search w x key lo r.row o
   unfolding rows_before is_held
   search-down z =
       let a : before key row ≡ true = order-above row key (sym e ∙ z) in

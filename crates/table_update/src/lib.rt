@@ -6,9 +6,9 @@ ghost use Rattle.octets.specs.Order.{order};
 ghost use Rattle.image_layout.specs.Layout.{Inside, extent_of, rows_in};
 ghost use Rattle.table_update.specs.Exchange.{front, Rising, Sought, TablePlace, RoomFor, Exchanges, one_row, one_if, position};
 
-use image_layout::{Extent, Layout};
-use octets::Order;
+use image_layout::{Extent, Layout, Middle};
 use rows::Table;
+use std::cmp::Ordering;
 
 // The place of a key in a table: which row it is or would be, where that row's bytes lie, and whether it is held.
 #[derive(Clone, Copy)]
@@ -32,14 +32,11 @@ pub fn extent_of(l: Layout, t: Table) -> Extent
 }
 
 // How the row's first bytes, as many as the key has, stand to the key.
-fn against(row: &[u8], key: &[u8]) -> Order
+fn against(row: &[u8], key: &[u8]) -> Ordering
     ensures { result ≡ order (front key.now row.now) key.now }
 {
-    let n = key.len();
-    if row.len() <= n {
-        return octets::compare(row, key);
-    }
-    octets::compare(&row[0..n], key)
+    let n = key.len().min(row.len());
+    octets::compare(&row[..n], key)
 }
 
 // The place of a key among the rows of a table, by bisection.
@@ -51,19 +48,16 @@ pub fn seek(w: &[u8], x: Extent, key: &[u8]) -> Place
     let mut lo = 0;
     let mut hi = x.count;
     let mut o = x.rows;
+    // by hand: the rows lie in bytes, and the library bisects slices alone
     // rows before `lo`, which lies at `o`, stand before the key, and rows from `hi` on above it
     while lo < hi {
-        let m = image_layout::middle_row(w, x, lo, hi, o);
-        let row = m.row;
-        let from = m.from;
-        let end = m.end;
-        let order = against(&w[from..end], key);
-        match order {
-            Order::Below => {
+        let Middle { row, from, end } = image_layout::middle_row(w, x, lo, hi, o);
+        match against(&w[from..end], key) {
+            Ordering::Less => {
                 lo = row + 1;
                 o = end;
             }
-            Order::Equal => {
+            Ordering::Equal => {
                 return Place {
                     row,
                     from,
@@ -71,7 +65,7 @@ pub fn seek(w: &[u8], x: Extent, key: &[u8]) -> Place
                     present: true,
                 };
             }
-            Order::Above => {
+            Ordering::Greater => {
                 hi = row;
             }
         }
@@ -88,18 +82,7 @@ pub fn seek(w: &[u8], x: Extent, key: &[u8]) -> Place
 pub fn position_of(t: Table) -> usize
     ensures { result ≡ position t }
 {
-    match t {
-        Table::Context => 0,
-        Table::Mapping => 1,
-        Table::Access => 2,
-        Table::View => 3,
-    }
-}
-
-fn one_if(b: bool) -> usize
-    ensures { result ≡ one_if b }
-{
-    if b { 1 } else { 0 }
+    t as usize
 }
 
 // The row at the place gives way to `row`: put in where none is held, replaced, or, where `row` has no bytes, taken out. `end` is the image's.
@@ -112,11 +95,10 @@ pub fn exchange(w: &mut [u8], t: Table, x: Extent, p: Place, end: usize, row: &[
     let gone = p.end - from;
     let n = row.len();
     let place = x.lengths + 2 * p.row;
-    let had = one_if(p.present);
-    let has = one_if(0 < n);
-    let head = [(n / 256) as u8, (n % 256) as u8];
-    let used = 2 * has;
-    splice::splice_two(w, place, 2 * had, &head[0..used], from, gone, end, row);
+    let had = usize::from(p.present);
+    let has = usize::from(0 < n);
+    let head = (n as u16).to_be_bytes();
+    splice::splice_two(w, place, 2 * had, &head[..2 * has], from, gone, end, row);
     // A count's low octet: document 01's limits are below 256.
     let at = 2 * position_of(t) + 1;
     w[at] = (x.count + has - had) as u8;

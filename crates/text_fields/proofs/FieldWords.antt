@@ -1,5 +1,7 @@
 -- What a word says of a field: nothing, more than its bytes hold, or its bytes. Assumes nothing.
-use mathlib.Core.Path.{◌≡◌, refl}
+use mathlib.Core.Path.{◌≡◌, refl, ◌∙◌}
+use Rattle.std.specs.Prelude.{Result, Ok, Err, Some, None}
+use Rattle.std.specs.Result.{OkIff, result_ok}
 use mathlib.Core.List.{List, [], ◌∷◌}
 use mathlib.Core.Option.{Option, none, some}
 use Prim.Native.Nat.{ℕ, ◌*◌, ◌≤◌, ◌<◌}
@@ -64,3 +66,13 @@ pub decimal-below : (w : List ℕ) (x : ℕ) → decimal w ≡ some x → x < 42
 unfolding decimal
 decimal-below [] x e = never e
 decimal-below (c ∷ cs) x e = below-most (digits_from 0 (c ∷ cs)) x e
+
+-- ---- a number that a smaller type holds, or not, where the failure is not told
+
+pub ok-some : {E P : Type 0} {v x : ℕ} (r : Result ℕ E) → OkIff r P v → Some x ≡ result_ok r → P × (x ≡ v)
+ok-some {v = v} {x} (Ok y) h e = let q : x ≡ y = cc in (h.0, q ∙ h.1)
+ok-some {x = x} (Err f) h e = let z : ◌≡◌ {A = ℕ} 0 1 = cc in absurd (omega arith)
+
+pub ok_none : {E P : Type 0} (v : ℕ) (r : Result ℕ E) → OkIff r P v → None ≡ result_ok r → P → ⊥
+ok_none v (Ok y) h e p = let z : ◌≡◌ {A = ℕ} 0 1 = cc in omega arith
+ok_none v (Err f) h e p = h p

@@ -1,10 +1,11 @@
 -- Fields said in the words of a line, one after the other, in the form of the image; and what the code reads of them. Assumes nothing.
 use Rattle.std.specs.Prelude.{◌≡◌, List, [], ◌∷◌, ◌++◌, ℕ, suc, ◌+◌, ◌*◌, ◌≤◌, length}
 use Rattle.std.proofs.Math.Option.{Option, none, some, bind, Option-elim}
+use Rattle.std.specs.Prelude.{Some, None}
 use Rattle.rows.specs.Fields.{Field}
 use Rattle.text_words.specs.Words.{longest, words_from}
 use Rattle.text_fields.specs.FieldWords.{field_said}
-use Rattle.text_fields.specs.declared.Placed.{Placed}
+use Rattle.text_fields.specs.Types.{Placed}
 
 -- the bytes that the words in front say, and the words behind
 pub record Said : Type 0 where
@@ -48,5 +49,5 @@ pub record Placing (end next from at : ℕ) (line : List ℕ) (s : Option Said) 
   pub short : end + 4 * at ≤ from + 4 * next
 
 abbrev pub Places : Placed → (from at : ℕ) (line : List ℕ) → Option Said → Type 0
-Places (Placed.To end next) from at line s = Placing end next from at line s
-Places Placed.Malformed from at line s = s ≡ none
+Places (Some (end, next)) from at line s = Placing end next from at line s
+Places None from at line s = s ≡ none

@@ -11,79 +11,66 @@ ghost use Rattle.text_fields.specs.FieldWords.{counted, numbered, field_said, wo
 ghost use Rattle.text_fields.specs.RowWords.{fields_said, fields_front, Roomy, Places};
 
 use rows::{Form, Table};
-use text_words::{Filled, LONGEST_LINE, Number, Word};
+use text_words::LONGEST_LINE;
 
-// The most that one octet holds.
+// The most octets that one octet counts.
 const OCTET_MOST: usize = 255;
 
 // ---- a field
 
 // A name or a mask: its octets behind the place of their count, which is put last.
-fn name(word: &[u8], out: &mut [u8], from: usize) -> Filled
+fn name(word: &[u8], out: &mut [u8], from: usize) -> Option<usize>
     requires { from + word_bytes word.now ≤ length out.old }
     ensures { Fills result from (word_bytes word.now) out.old out.new (counted octet (hex_octets word.now)) }
 {
     // two digits an octet
     if 2 * OCTET_MOST < word.len() {
-        return Filled::Malformed;
+        return None;
     }
     let first = from + 1;
-    let Filled::Upto(end) = text_words::hex_octets(word, out, first) else {
-        return Filled::Malformed;
-    };
+    let end = text_words::hex_octets(word, out, first)?;
     out[from] = (end - first) as u8;
-    Filled::Upto(end)
+    Some(end)
 }
 
-// A subtree, likewise.
-fn subtree(word: &[u8], out: &mut [u8], from: usize) -> Filled
+// A subtree, likewise. A function of its own: it reads into a buffer of its own, and knows only then how many there are.
+fn subtree(word: &[u8], out: &mut [u8], from: usize) -> Option<usize>
     requires room { from + word_bytes word.now ≤ length out.old }
     requires short { length word.now ≤ longest }
     ensures { Fills result from (word_bytes word.now) out.old out.new (counted quad (dotted word.now)) }
 {
     let mut parts = [0u32; LONGEST_LINE];
-    let Filled::Upto(n) = text_words::dotted(word, &mut parts, 0) else {
-        return Filled::Malformed;
-    };
-    if OCTET_MOST < n {
-        return Filled::Malformed;
-    }
+    let n = text_words::dotted(word, &mut parts, 0)?;
+    let count = u8::try_from(n).ok()?;
     let first = from + 1;
     let end = first + 4 * n;
     numbers::put_quads(&mut out[first..end], &parts[0..n]);
-    out[from] = n as u8;
-    Filled::Upto(end)
+    out[from] = count;
+    Some(end)
 }
 
 // A number of four bytes, which hold every number that a word says.
-fn large(word: &[u8], out: &mut [u8], from: usize) -> Filled
+fn large(word: &[u8], out: &mut [u8], from: usize) -> Option<usize>
     requires { from + word_bytes word.now ≤ length out.old }
     ensures { Fills result from (word_bytes word.now) out.old out.new (numbered quad (decimal word.now)) }
 {
-    let Number::Of(x) = text_words::decimal(word) else {
-        return Filled::Malformed;
-    };
+    let x = text_words::decimal(word)?;
     numbers::put_quad(out, from, x);
-    Filled::Upto(from + 4)
+    Some(from + 4)
 }
 
 // A number of one byte.
-fn small(word: &[u8], out: &mut [u8], from: usize) -> Filled
+fn small(word: &[u8], out: &mut [u8], from: usize) -> Option<usize>
     requires { from + word_bytes word.now ≤ length out.old }
     ensures { Fills result from (word_bytes word.now) out.old out.new (numbered octet (decimal word.now)) }
 {
-    let Number::Of(x) = text_words::decimal(word) else {
-        return Filled::Malformed;
-    };
-    if (OCTET_MOST as u32) < x {
-        return Filled::Malformed;
-    }
-    out[from] = x as u8;
-    Filled::Upto(from + 1)
+    let x = u8::try_from(text_words::decimal(word)?).ok()?;
+    out[from] = x;
+    Some(from + 1)
 }
 
 // The field of form `f` that a word says, its bytes in `out` from `from` on.
-pub fn field(f: Form, word: &[u8], out: &mut [u8], from: usize) -> Filled
+pub fn field(f: Form, word: &[u8], out: &mut [u8], from: usize) -> Option<usize>
     requires room { from + word_bytes word.now ≤ length out.old }
     requires short { length word.now ≤ longest }
     ensures { Fills result from (word_bytes word.now) out.old out.new (field_said (field_of f) word.now) }
@@ -98,35 +85,27 @@ pub fn field(f: Form, word: &[u8], out: &mut [u8], from: usize) -> Filled
 
 // ---- the fields of a row
 
-// Up to where a lent buffer is filled, and where the next word begins.
-#[derive(Clone, Copy)]
-pub enum Placed {
-    To(usize, usize),
-    Malformed,
-}
-
 // The first `n` fields of a row, a word for each from the one that begins at `at` on, their bytes in `out` from `from` on.
-pub fn fields(t: Table, n: usize, line: &[u8], at: usize, out: &mut [u8], from: usize) -> Placed
+pub fn fields(
+    t: Table,
+    n: usize,
+    line: &[u8],
+    at: usize,
+    out: &mut [u8],
+    from: usize,
+) -> Option<(usize, usize)>
     requires fields { n ≤ length (row_fields t) }
     requires room { Roomy line.now at out.old from }
     ensures places { Places result from at line.now
         (fields_said (take n (row_fields t)) (words_from at line.now)) }
     ensures lays { out.new ≡ laid from (fields_front (take n (row_fields t)) (words_from at line.now)) out.old }
 {
-    let mut i = 0;
     let mut a = at;
     let mut k = from;
-    while i < n {
-        let Word::To(end) = text_words::word_at(line, a) else {
-            return Placed::Malformed;
-        };
-        let f = rows::form_at(t, i);
-        let Filled::Upto(m) = field(f, &line[a..end], out, k) else {
-            return Placed::Malformed;
-        };
-        k = m;
+    for i in 0..n {
+        let end = text_words::word_at(line, a)?;
+        k = field(rows::form_at(t, i), &line[a..end], out, k)?;
         a = end + 1;
-        i += 1;
     }
-    Placed::To(k, a)
+    Some((k, a))
 }

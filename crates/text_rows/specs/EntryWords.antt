@@ -1,6 +1,7 @@
 -- A table's row or key said in the words of a line: the table's word, and the fields in order; and what the code reads of it. Assumes nothing.
 use Rattle.std.specs.Prelude.{◌≡◌, List, [], ◌∷◌, ℕ, suc, ◌+◌, ◌*◌, ◌≤◌, length, take}
 use Rattle.std.proofs.Math.Option.{Option, none, some, bind, Option-elim}
+use Rattle.std.specs.Prelude.{Some, None}
 use Rattle.edit_rules.specs.declared.Operation.{Operation}
 use Rattle.rows.specs.declared.Shape.{Shape}
 use Rattle.rows.specs.declared.Table.{Table}
@@ -10,7 +11,7 @@ use Rattle.text_words.specs.Words.{words_from}
 use Rattle.text_fields.specs.RowWords.{Said, fields_said, fields_front}
 use Rattle.text_rows.specs.TableWords.{table_named}
 use Rattle.text_rows.specs.declared.Slot.{Slot}
-use Rattle.text_rows.specs.declared.Found.{Found}
+use Rattle.text_rows.specs.Types.{Found}
 
 -- what a row or a key of a table says, and the words behind it
 pub record Entry : Type 0 where
@@ -50,5 +51,5 @@ pub record Entering (s : Slot) (next : ℕ) (o : Operation) (from at : ℕ) (lin
   pub short : s.end + 4 * at ≤ from + 4 * next
 
 abbrev pub Enters : Found → (o : Operation) (from at : ℕ) (line : List ℕ) → Option Entry → Type 0
-Enters (Found.At s next) o from at line e = Entering s next o from at line e
-Enters Found.Malformed o from at line e = e ≡ none
+Enters (Some (s, next)) o from at line e = Entering s next o from at line e
+Enters None o from at line e = e ≡ none

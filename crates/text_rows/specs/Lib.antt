@@ -1,3 +1,4 @@
+pub mod Types
 pub mod TableWords
 pub mod EntryWords
 pub mod FieldText

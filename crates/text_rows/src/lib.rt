@@ -17,8 +17,6 @@ ghost use Rattle.text_rows.specs.TableWords.{table_word};
 
 use edit_rules::Operation;
 use rows::{Form, Shape, Table};
-use text_fields::Placed;
-use text_words::Word;
 
 // ---- read from words
 
@@ -29,13 +27,6 @@ pub struct Slot {
     pub table: Table,
     pub from: usize,
     pub end: usize,
-}
-
-// A field's slot, and where the next word begins.
-#[derive(Clone, Copy)]
-pub enum Found {
-    At(Slot, usize),
-    Malformed,
 }
 
 // How many fields a row or a key of a table has.
@@ -49,28 +40,28 @@ fn field_count(s: Shape, t: Table) -> usize
 }
 
 // The row or the key, as the operation has it, that the words from the one that begins at `at` on say, its bytes in `out` from `from` on.
-pub fn entry(o: Operation, line: &[u8], at: usize, out: &mut [u8], from: usize) -> Found
+pub fn entry(
+    o: Operation,
+    line: &[u8],
+    at: usize,
+    out: &mut [u8],
+    from: usize,
+) -> Option<(Slot, usize)>
     requires { Roomy line.now at out.old from }
     ensures enters { Enters result o from at line.now (entry_said o (words_from at line.now)) }
     ensures lays { out.new ≡ laid from (entry_front o (words_from at line.now)) out.old }
 {
-    let Word::To(end) = text_words::word_at(line, at) else {
-        return Found::Malformed;
-    };
-    let table = match text_words::place_of(&line[at..end], b"context mapping access view") {
+    let word_end = text_words::word_at(line, at)?;
+    let table = match text_words::place_of(&line[at..word_end], b"context mapping access view") {
         0 => Table::Context,
         1 => Table::Mapping,
         2 => Table::Access,
         3 => Table::View,
-        _ => {
-            return Found::Malformed;
-        }
+        _ => return None,
     };
     let n = field_count(edit_rules::shape_of(o), table);
-    let Placed::To(end, next) = text_fields::fields(table, n, line, end + 1, out, from) else {
-        return Found::Malformed;
-    };
-    Found::At(
+    let (end, next) = text_fields::fields(table, n, line, word_end + 1, out, from)?;
+    Some((
         Slot {
             operation: o,
             table,
@@ -78,7 +69,7 @@ pub fn entry(o: Operation, line: &[u8], at: usize, out: &mut [u8], from: usize) 
             end,
         },
         next,
-    )
+    ))
 }
 
 // ---- told in words
@@ -130,15 +121,13 @@ fn put_fields(out: &mut [u8], at: usize, t: Table, n: usize, row: &[u8]) -> usiz
     ensures { Puts (fields_text (take n (row_fields t)) (values (take n (row_fields t)) row.now)) at out.old out.new result }
 {
     let mut o = at;
-    let mut i = 0;
     let mut k = 0;
-    while i < n {
+    for i in 0..n {
         let f = rows::form_at(t, i);
         let end = field_end(f, row, k);
         let next = text_values::put_octet(out, o, b' ');
         o = put_field(out, next, f, row, k, end);
         k = end;
-        i += 1;
     }
     o
 }

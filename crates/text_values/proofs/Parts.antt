@@ -1,12 +1,16 @@
 -- Laws of `hex_text`, `name_text` and `dotted_text`: the text of a list from a place on is that of the element there and of the rest, and how
 -- long each is at most. Assumes nothing.
-use mathlib.Core.Path.{◌≡◌, refl}
+use mathlib.Core.Path.{◌≡◌, refl, sym}
 use mathlib.Core.List.{List, [], ◌∷◌, ◌++◌}
 use Prim.Native.Nat.{ℕ, suc, ◌+◌, ◌*◌, ◌/◌, ◌%◌, ◌≤◌, ◌<◌}
 use native.Mathlib.Numerals.{add-one}
 use native.Mathlib.Omega.{arith}
-use lib.ListN.{length, drop, get_or, set, length-append, drop_of_length-le}
-use lib.Seq.{drop-cons}
+use lib.ListN.{length, take, drop, get_or, set, length-append, drop_of_length-le}
+use lib.Seq.{drop-cons, length-take-le}
+use Rattle.std.proofs.Common.{take-append-drop}
+use Rattle.numbers.specs.BigEndian.{quad, number}
+use Rattle.decision_steps.specs.Bytes.{identifier}
+use Rattle.decision_steps.proofs.Identifiers.{identifier-next}
 use Rattle.text_values.specs.Texts.{decimal_text, hex_digit, octet_text, hex_text, name_text, dots_text, dotted_text, Puts}
 use Rattle.text_values.proofs.Puts.{Onward, room, step, both, behind, puts-two}
 use Rattle.text_values.proofs.Digits.{length-decimal-quad}
@@ -81,11 +85,19 @@ module _ {text : List ℕ} {at : ℕ} {w₀ : List ℕ} {x : ℕ} {xs rest : Lis
   pub dots-step : {r : ℕ} {after : List ℕ} → Puts (46 ∷ decimal_text n) o w after r → Onward text at w₀ (dots_text rest) r after
   dots-step p = step (46 ∷ decimal_text n) (dots_text rest) next-left p
 
--- the first and the others
-pub first_next : (xs : List ℕ) → (length xs ≡ 0 → ⊥) → xs ≡ get_or xs 0 0 ∷ drop 1 xs
-first_next [] h = absurd (h refl)
-first_next (x ∷ xs) h = refl
+-- four bytes cut off the front say the first number
+pub quad-cut : (v x rest : List ℕ) → v ≡ x ++ rest → length x ≡ 4 → identifier v ≡ number quad x ∷ identifier rest
+quad-cut v [] rest e h = absurd (omega arith)
+quad-cut v (a ∷ []) rest e h = absurd (omega arith)
+quad-cut v (a ∷ b ∷ []) rest e h = absurd (omega arith)
+quad-cut v (a ∷ b ∷ c ∷ []) rest e h = absurd (omega arith)
+quad-cut v (a ∷ b ∷ c ∷ d ∷ []) rest e h = rw e (identifier-next 0 (a ∷ b ∷ c ∷ d ∷ rest) (omega arith))
+quad-cut v (a ∷ b ∷ c ∷ d ∷ f ∷ xs) rest e h = absurd (omega arith)
 
+pub quad-first : (v x : List ℕ) → x ≡ take 4 v → 4 ≤ length v → identifier v ≡ number quad x ∷ identifier (drop 4 v)
+quad-first v x e h = rw e (quad-cut v (take 4 v) (drop 4 v) (sym (take-append-drop 4 v)) (length-take-le 4 v h))
+
+-- the first and the others
 module _ (at : ℕ) (w : List ℕ) {x : ℕ} {xs rest : List ℕ} (e : xs ≡ x ∷ rest)
     (h : at + length (dotted_text xs) ≤ length w) {n : ℕ} (i : n ≡ x) where
   all : dotted_text xs ≡ decimal_text n ++ dots_text rest

@@ -31,7 +31,7 @@ fn decimal_digit(n: u64) -> u8
     requires { n < 10 }
     ensures { result ≡ 48 + n }
 {
-    48 + n as u8
+    b'0' + n as u8
 }
 
 // A number in decimal, with no zero in front.
@@ -52,7 +52,7 @@ fn hex_digit(x: u8) -> u8
     requires { x < 16 }
     ensures { result ≡ hex_digit x }
 {
-    if x < 10 { 48 + x } else { 87 + x }
+    if x < 10 { b'0' + x } else { b'a' - 10 + x }
 }
 
 // Octets in hex, two lower-case digits each.
@@ -61,13 +61,10 @@ pub fn put_hex(out: &mut [u8], at: usize, octets: &[u8]) -> usize
     ensures { Puts (hex_text octets.now) at out.old out.new result }
 {
     let mut o = at;
-    let mut i = 0;
-    while i < octets.len() {
-        let x = octets[i];
+    for &x in octets {
         out[o] = hex_digit(x / 16);
         out[o + 1] = hex_digit(x % 16);
         o += 2;
-        i += 1;
     }
     o
 }
@@ -77,7 +74,7 @@ pub fn put_name(out: &mut [u8], at: usize, name: &[u8]) -> usize
     requires { at + length (name_text name.now) ≤ length out.old }
     ensures { Puts (name_text name.now) at out.old out.new result }
 {
-    if name.len() == 0 {
+    if name.is_empty() {
         return put_octet(out, at, b'-');
     }
     put_hex(out, at, name)
@@ -99,31 +96,28 @@ pub fn put_dotted(out: &mut [u8], at: usize, parts: &[u32]) -> usize
     requires { at + length (dotted_text parts.now) ≤ length out.old }
     ensures { Puts (dotted_text parts.now) at out.old out.new result }
 {
-    if parts.len() == 0 {
+    let Some((&first, rest)) = parts.split_first() else {
         return put_octet(out, at, b'-');
-    }
-    let mut o = put_decimal(out, at, parts[0] as u64);
-    let mut i = 1;
-    while i < parts.len() {
-        o = put_number(out, o, b'.', parts[i] as u64);
-        i += 1;
+    };
+    let mut o = put_decimal(out, at, u64::from(first));
+    for &part in rest {
+        o = put_number(out, o, b'.', u64::from(part));
     }
     o
 }
 
 // The same of sub-identifiers that lie in four bytes each, big-endian.
+// A function of its own: one over both kinds of part would take an iterator or a closure, and its contract would be longer than the loop.
 pub fn put_dotted_quads(out: &mut [u8], at: usize, bytes: &[u8]) -> usize
     requires { at + length (dotted_text (identifier bytes.now)) ≤ length out.old }
     ensures { Puts (dotted_text (identifier bytes.now)) at out.old out.new result }
 {
-    if bytes.len() < 4 {
+    let Some((first, rest)) = bytes.split_first_chunk::<4>() else {
         return put_octet(out, at, b'-');
-    }
-    let mut o = put_decimal(out, at, numbers::quad_at(bytes, 0) as u64);
-    let mut k = 4;
-    while 4 <= bytes.len() - k {
-        o = put_number(out, o, b'.', numbers::quad_at(bytes, k) as u64);
-        k += 4;
+    };
+    let mut o = put_decimal(out, at, numbers::quad_at(first, 0) as u64);
+    for quad in rest.chunks_exact(4) {
+        o = put_number(out, o, b'.', numbers::quad_at(quad, 0) as u64);
     }
     o
 }

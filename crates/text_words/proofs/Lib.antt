@@ -2,3 +2,4 @@ pub mod Kept
 pub mod Words
 pub mod WordsFrom
 pub mod Named
+pub mod Parts

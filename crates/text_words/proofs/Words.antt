@@ -8,20 +8,23 @@ use mathlib.Core.Option.{Option, none, some, map}
 use Prim.Native.Nat.{ℕ, zero, suc, ◌+◌, ◌-◌, ◌*◌, ◌≤◌, ◌<◌}
 use native.Mathlib.Omega.{arith}
 use native.Mathlib.Numerals.{add-one}
-use lib.Dec.{eqb, ltb}
+use lib.Dec.{eqb}
 use lib.ListN.{length, take, drop, set, get_or, length-drop, length-append, drop_of_length-le}
 use lib.Seq.{drop-cons, drop-drop, take-length, append_snoc}
-use borrow.Author.Tests.{lt-ltb, le-ltb, ltb-true, ltb-false}
+use borrow.Author.Tests.{lt-ltb, le-ltb}
+use Rattle.std.specs.Prelude.{Some, None}
+use Rattle.std.specs.Char.{digit_value}
+use Rattle.std.proofs.lemmas.Str.{digit_value_digit}
+use Rattle.std.proofs.lemmas.Str.Parse.{digit_from_value}
 use Rattle.numbers.specs.Laid.{laid}
 use Rattle.numbers.specs.Order.{same}
 use Rattle.numbers.proofs.Laid.{laid_nil, length-laid, laid-laid, laid-set}
 use Rattle.numbers.proofs.Bools.{split as by, clash}
 use Rattle.numbers.proofs.Orders.{same_true}
 use Rattle.rows.specs.Fields.{within}
-use Rattle.rows.proofs.Sound.{within-most}
-use Rattle.rows.proofs.Steps.{within_low, within-high, within-yes}
-use Rattle.text_words.specs.declared.Number.{Number}
-use Rattle.text_words.specs.declared.Number.TheVariants.{Of, Bad}
+use Rattle.rows.proofs.Sound.{within-least, within-most}
+use Rattle.rows.proofs.Steps.{within-yes}
+use Rattle.text_words.specs.Types.{Number}
 use Rattle.text_words.specs.Words.{between, longer, split, run, Ends, digits_from, below32, decimal, number_of, also, is_said, dash, hex_digit, hex_pair, hex_pairs}
 use Rattle.text_words.specs.Words.{hex_octets, decimals, dotted, Filling, Unfilled}
 
@@ -179,17 +182,24 @@ module _ {w : List ℕ} {i n : ℕ} (r : Reading w i n) where
     unfolding digits_from
     digit-next a b = r.says ∙ rw (drop-cons w i 0 h, ← e, within-yes 48 57 c a b, add-one)
 
-    pub reading-low : c < 48 → decimal w ≡ none
-    reading-low b = decimal-some w r.some_digits ∙ rw (digit-bad (within_low 48 57 c b))
+    -- the library takes it for no digit
+    pub reading-bad : (digit_value c < 10 → ⊥) → decimal w ≡ none
+    reading-bad b =
+        decimal-some w r.some_digits
+        ∙ rw (digit-bad (by (within 48 57 c) (λ t. absurd (b (omega (arith, digit_value_digit c (within-least 48 57 c t, within-most 48 57 c t), within-most 48 57 c t)))) (λ f. f)))
 
-    pub reading-high : 57 < c → decimal w ≡ none
-    reading-high b = decimal-some w r.some_digits ∙ rw (digit-bad (within-high 48 57 c b))
+    module _ (d : digit_value c < 10) where
+      digit-adds : digits_from 0 w ≡ digits_from (n * 10 + digit_value c) (drop (i + 1) w)
+      digit-adds =
+          let k = digit_from_value c d in
+          let v : digit_value c ≡ c - 48 = omega (arith, digit_value_digit c k) in
+          rw v (digit-next k.0 k.1)
 
-    pub reading-large : 48 ≤ c → c ≤ 57 → 4294967295 < n * 10 + (c - 48) → decimal w ≡ none
-    reading-large a b l = decimal-some w r.some_digits ∙ rw (digit-next a b) (digits-large _ _ l)
+      pub reading-large : 4294967295 < n * 10 + digit_value c → decimal w ≡ none
+      reading-large l = decimal-some w r.some_digits ∙ rw digit-adds (digits-large _ _ l)
 
-    pub reading-next : 48 ≤ c → c ≤ 57 → n * 10 + (c - 48) ≤ 4294967295 → Reading w (i + 1) (n * 10 + (c - 48))
-    reading-next a b l = record { some_digits = r.some_digits; passed = omega arith; small = omega arith; says = digit-next a b }
+      pub reading-next : {m : ℕ} → m ≡ n * 10 + digit_value c → m ≤ 4294967295 → Reading w (i + 1) m
+      reading-next q l = rw q (record { some_digits = r.some_digits; passed = omega arith; small = omega arith; says = digit-adds })
 
 -- ---- what is read part by part
 
@@ -281,26 +291,6 @@ unfolding hex_octets
 hex-some [] n h = absurd (n refl)
 hex-some (c ∷ cs) n h = rw h
 
-module _ (w : List ℕ) (i : ℕ) where
-  pub pairs_end : length w ≤ i → hex_pairs (drop i w) ≡ some []
-  unfolding hex_pairs
-  pairs_end h = rw (drop_of_length-le w h)
-
-  pub pairs-odd : i + 1 ≡ length w → hex_pairs (drop i w) ≡ none
-  unfolding hex_pairs
-  pairs-odd h =
-      let l : i < length w = omega arith in
-      let m : length w ≤ suc i = omega arith in
-      rw (drop-cons w i 0 l, drop_of_length-le w m)
-
-  pub pairs_next : i + 1 < length w → hex_pairs (drop i w) ≡ also (hex_pair (hex_digit (get_or w i 0)) (hex_digit (get_or w (i + 1) 0))) (hex_pairs (drop (i + 2) w))
-  unfolding hex_pairs
-  pairs_next h =
-      let l : i < length w = omega arith in
-      let m : suc i < length w = omega arith in
-      let q : i + 2 ≡ suc (suc i) = omega arith in
-      rw (drop-cons w i 0 l, drop-cons w (suc i) 0 m, q, add-one i)
-
 -- one pair more
 pair-length : (n : ℕ) (part : Option ℕ) (rest : Option (List ℕ)) (x : List ℕ) → ((xs : List ℕ) → rest ≡ some xs → n ≡ 2 * length xs)
     → also part rest ≡ some x → n + 2 ≡ 2 * length x
@@ -333,31 +323,6 @@ pub dotted-some : (w : List ℕ) → same w dash ≡ false → dotted w ≡ deci
 unfolding dotted
 dotted-some w h = rw h
 
-module _ (w : List ℕ) (at end : ℕ) (e : end ≡ at + run 46 (drop at w)) where
-  pub dots-last : end ≡ length w → decimals (split 46 (drop at w)) ≡ also (decimal (between at end w)) (some [])
-  unfolding decimals
-  dots-last h = rw (part-last 46 w at end e h)
-
-  pub dots-next : end < length w → decimals (split 46 (drop at w)) ≡ also (decimal (between at end w)) (decimals (split 46 (drop (end + 1) w)))
-  unfolding decimals
-  dots-next h = rw (part-next 46 w at end e h)
-
-  pub dots-bad : end ≤ length w → decimal (between at end w) ≡ none → decimals (split 46 (drop at w)) ≡ none
-  dots-bad h b =
-      by (ltb end (length w)) (λ l. dots-next (ltb-true end (length w) l) ∙ rw b)
-      (λ l. dots-last (omega (arith, ltb-false end (length w) l)) ∙ rw b)
-
--- a part that is a number is not empty
-pub part-some : (w : List ℕ) (at end x : ℕ) → decimal (between at end w) ≡ some x → at < end
-unfolding decimal
-part-some w at end x e =
-    by (ltb at end) (λ l. ltb-true at end l)
-    (λ l.
-    let n : end - at ≡ 0 = omega (arith, ltb-false at end l) in
-    let d : decimal (between at end w) ≡ none = rw n in
-    let z : ◌≡◌ {A = ℕ} 0 1 = cc in
-    absurd (omega arith))
-
 -- ---- hex digits
 
 -- a hex digit says less than 16
@@ -372,19 +337,11 @@ hex-below c x e =
     (λ d. let s : some (c - 55) ≡ some x = rw (a, b, d) at e in let l = within-most 65 70 c d in let y : c - 55 ≡ x = cc in omega arith)
     (λ d. let s : none ≡ some x = rw (a, b, d) at e in let z : ◌≡◌ {A = ℕ} 0 1 = cc in absurd (omega arith))))
 
-pub hex_pair-below : (a b x : ℕ) → hex_pair (hex_digit a) (hex_digit b) ≡ some x → x < 256
-hex_pair-below a b x e = go (hex_digit a) (hex_digit b) (hex-below a) (hex-below b) e
-  where
-    go : (o p : Option ℕ) → ((y : ℕ) → o ≡ some y → y < 16) → ((y : ℕ) → p ≡ some y → y < 16) → hex_pair o p ≡ some x → x < 256
-    go none p f g e = let z : ◌≡◌ {A = ℕ} 0 1 = cc in absurd (omega arith)
-    go (some h) none f g e = let z : ◌≡◌ {A = ℕ} 0 1 = cc in absurd (omega arith)
-    go (some h) (some l) f g e = let y : h * 16 + l ≡ x = cc in omega (arith, f h refl, g l refl)
-
 -- what a number that was read says
-pub number_is : {r : Number} {o : Option ℕ} (x : ℕ) → r ≡ Of x → number_of r ≡ o → o ≡ some x
+pub number_is : {r : Number} {o : Option ℕ} (x : ℕ) → r ≡ Some x → number_of r ≡ o → o ≡ some x
 number_is x e q = sym q ∙ ap number_of e
 
-pub number-bad : {r : Number} {o : Option ℕ} → r ≡ Bad → number_of r ≡ o → o ≡ none
+pub number-bad : {r : Number} {o : Option ℕ} → r ≡ None → number_of r ≡ o → o ≡ none
 number-bad e q = sym q ∙ ap number_of e
 
 -- ---- whether something is said
@@ -395,11 +352,3 @@ said-none (some x) e = clash refl e
 
 pub said-not : {A P : Type 0} {o : Option A} → is_said o ≡ true → o ≡ none → P
 said-not t n = clash t (ap is_said n)
-
--- behind a part that says something, a list does where its rest does
-pub said-also : {part : Option ℕ} {x : ℕ} (rest : Option (List ℕ)) → part ≡ some x → is_said (also part rest) ≡ is_said rest
-said-also none e = rw e
-said-also (some xs) e = rw e
-
-pub also-none : {part : Option ℕ} (rest : Option (List ℕ)) → part ≡ none → also part rest ≡ none
-also-none rest e = rw e

@@ -1,17 +1,15 @@
 -- Laws of the words from a place on: the first of them ends where the others begin, one octet on. Assumes nothing.
 use mathlib.Core.Path.{◌≡◌, sym, ap, ◌∙◌}
-use mathlib.Core.Bool.{true, false}
 use mathlib.Core.List.{List, [], ◌∷◌}
-use Prim.Native.Nat.{ℕ, suc, ◌+◌, ◌-◌, ◌≤◌, ◌<◌}
+use Prim.Native.Nat.{ℕ, ◌+◌, ◌-◌, ◌≤◌, ◌<◌}
 use native.Mathlib.Omega.{arith}
 use lib.Dec.{ltb, leb}
 use lib.ListN.{length, drop, length-take, length-drop}
 use borrow.Author.Tests.{le-leb, lt-leb, leb-true, leb-false, ltb-true, ltb-false}
-use Rattle.numbers.specs.Order.{same}
+use Rattle.std.specs.Prelude.{Some, None}
 use Rattle.numbers.proofs.Bools.{split as by}
-use Rattle.text_words.specs.Words.{between, split, run, words, words_from, word_at, place, Ends}
+use Rattle.text_words.specs.Words.{between, split, run, words, words_from, word_at, Ends}
 use Rattle.text_words.proofs.Words.{run-most, part-last, part-next, split-some}
-use Rattle.text_words.specs.declared.Word.TheVariants.{To, Missing}
 
 -- ---- the words from a place on
 
@@ -51,32 +49,32 @@ word-from at line end h e = record {
 
 module _ (at : ℕ) (line : List ℕ) where
   -- the code's two answers
-  pub at-end : length line < at → Missing ≡ word_at at line
+  pub at-end : length line < at → None ≡ word_at at line
   unfolding word_at
   at-end h = rw (lt-leb at (length line) h)
 
-  pub at-word : at ≤ length line → (end : ℕ) → Ends 32 line at end → To end ≡ word_at at line
+  pub at-word : at ≤ length line → (end : ℕ) → Ends 32 line at end → Some end ≡ word_at at line
   unfolding word_at
   at-word h end e = rw (le-leb at (length line) h, e.ends)
 
-  pub word-missing : word_at at line ≡ Missing → words_from at line ≡ []
+  pub word-missing : word_at at line ≡ None → words_from at line ≡ []
   unfolding word_at
   word-missing q =
       by (leb at (length line))
-      (λ t. let m : To (at + run 32 (drop at line)) ≡ Missing = rw t at q in cc)
+      (λ t. let m : Some (at + run 32 (drop at line)) ≡ None = rw t at q in cc)
       (λ f. none_from at line (leb-false at (length line) f))
 
-  pub word-found : {end : ℕ} → word_at at line ≡ To end → WordAt at line end
+  pub word-found : {end : ℕ} → word_at at line ≡ Some end → WordAt at line end
   unfolding word_at
   word-found {end} q =
       by (leb at (length line))
       (λ t.
-      let m : To (at + run 32 (drop at line)) ≡ To end = rw t at q in
+      let m : Some (at + run 32 (drop at line)) ≡ Some end = rw t at q in
       let p : end ≡ at + run 32 (drop at line) = cc in
       let h : at ≤ length line = leb-true at (length line) t in
       word-from at line end h (record { ends = p; inside = omega (arith, run-most 32 (drop at line), length-drop at line) }))
       (λ f.
-      let m : Missing ≡ To end = rw f at q in
+      let m : None ≡ Some end = rw f at q in
       let z : ◌≡◌ {A = ℕ} 0 1 = cc in
       absurd (omega arith))
 
@@ -90,27 +88,3 @@ word-length {at} {line} {end} w =
 
 pub word_over : (at : ℕ) (line : List ℕ) → at ≤ length line → 1 ≤ length (words_from at line)
 word_over at line h = rw (some-from at line h) (split-some 32 (drop at line))
-
--- ---- a word's place: the words passed, and the place among the others
-
-module _ (w list : List ℕ) (n at : ℕ) where
-  pub record Passed : Type 0 where
-    pub makes : place w (words list) ≡ n + place w (words_from at list)
-
-pub passed_start : (w list : List ℕ) → Passed w list 0 0
-passed_start w list = record { makes = omega (arith, ap (place w) (from_start list)) }
-
-module _ {w list : List ℕ} {n at : ℕ} (p : Passed w list n at) where
-  pub passed-end : length list < at → n ≡ place w (words list)
-  unfolding place
-  passed-end h = omega (arith, p.makes, ap (place w) (none_from at list h))
-
-  module _ {end : ℕ} (a : WordAt at list end) where
-    pub passed_here : same (between at end list) w ≡ true → n ≡ place w (words list)
-    unfolding place
-    passed_here h = let z : place w (words_from at list) ≡ 0 = rw (a.is, h) in omega (arith, p.makes)
-
-    pub passed-next : same (between at end list) w ≡ false → Passed w list (n + 1) (end + 1)
-    unfolding place
-    passed-next h =
-        let z : place w (words_from at list) ≡ suc (place w (words_from (end + 1) list)) = rw (a.is, h) in record { makes = omega (arith, p.makes) }

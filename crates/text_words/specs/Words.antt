@@ -2,15 +2,13 @@
 -- Octets are ASCII: 32 space, 45 `-`, 46 `.`, 48 to 57 the digits. Assumes nothing.
 use Rattle.std.specs.Prelude.{◌≡◌, Bool, true, false, cond, List, [], ◌∷◌, ℕ, suc, ◌+◌, ◌-◌, ◌*◌, ◌≤◌, eqb, ltb, leb, length, take, drop}
 use Rattle.std.proofs.Math.Option.{Option, none, some}
+use Rattle.std.specs.Prelude.{Some, None}
 use Rattle.numbers.specs.Laid.{laid}
 use Rattle.numbers.specs.Order.{same}
 use Rattle.rows.specs.Fields.{within}
-use Rattle.text_words.specs.declared.Word.{Word}
-use Rattle.text_words.specs.declared.Word.TheVariants.{To, Missing}
-use Rattle.text_words.specs.declared.Number.{Number}
-use Rattle.text_words.specs.declared.Number.TheVariants.{Of, Bad}
-use Rattle.text_words.specs.declared.Filled.{Filled}
-use Rattle.text_words.specs.declared.Filled.TheVariants.{Upto, Malformed}
+use Rattle.text_words.specs.Types.{Word}
+use Rattle.text_words.specs.Types.{Number}
+use Rattle.text_words.specs.Types.{Filled}
 
 -- ---- words
 
@@ -56,7 +54,7 @@ pub record Ends (mark : ℕ) (s : List ℕ) (at r : ℕ) : Type 0 where
   pub inside : r ≤ length s
 
 unfoldable pub word_at : ℕ → List ℕ → Word
-word_at at line = cond (leb at (length line)) (To (at + run 32 (drop at line))) Missing
+word_at at line = cond (leb at (length line)) (Some (at + run 32 (drop at line))) None
 
 -- ---- a number: one or more digits, its value below 2^32
 
@@ -75,8 +73,8 @@ decimal (c ∷ cs) = below32 (digits_from 0 (c ∷ cs))
 
 -- the number that the code reads
 abbrev pub number_of : Number → Option ℕ
-number_of (Of n) = some n
-number_of Bad = none
+number_of (Some n) = some n
+number_of None = none
 
 -- ---- a list of what each part says, if each says something
 
@@ -104,6 +102,11 @@ abbrev pub hex_pair : Option ℕ → Option ℕ → Option ℕ
 hex_pair none low = none
 hex_pair (some h) none = none
 hex_pair (some h) (some l) = some (h * 16 + l)
+
+-- the octet of a pair; a digit alone says none
+abbrev pub hex_octet : List ℕ → Option ℕ
+hex_octet (a ∷ b ∷ []) = hex_pair (hex_digit a) (hex_digit b)
+hex_octet w = none
 
 unfoldable pub hex_pairs : List ℕ → Option (List ℕ)
 hex_pairs [] = some []
@@ -140,5 +143,5 @@ pub record Unfilled {A : Type 0} (found out : List ℕ) (said : Option A) : Type
   pub kept : out ≡ found
 
 abbrev pub Fills : Filled → (from most : ℕ) (found out : List ℕ) → Option (List ℕ) → Type 0
-Fills (Upto n) from most found out said = Filling n from most found out said
-Fills Malformed from most found out said = Unfilled found out said
+Fills (Some n) from most found out said = Filling n from most found out said
+Fills None from most found out said = Unfilled found out said

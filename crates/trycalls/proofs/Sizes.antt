@@ -4,11 +4,11 @@ use mathlib.Core.List.{List}
 use mathlib.Core.Option.{Option, none, some, none-ne-some}
 use Prim.Native.Nat.{ℕ}
 use lib.ListN.{length}
+use Rattle.std.specs.Prelude.{Ok, Err}
 use Rattle.numbers.proofs.Bools.{split as by, cond-false}
 use Rattle.rows.specs.Tables.{Tables}
 use Rattle.image.specs.Store.{room, is_sound, held}
 use Rattle.answers.specs.declared.Fault.{Fault}
-use Rattle.image_transfer.specs.declared.Loaded.TheVariants.{Done, Faulty}
 use Rattle.image_transfer.specs.Transfer.{loaded}
 use Rattle.table_update.proofs.Stores.{store-sound}
 
@@ -19,10 +19,10 @@ held-size w {t} e =
     (λ h. sym (store-sound w h).size_is)
     (λ h. let y : none ≡ some t = sym (cond-false _ _ h) ∙ e in absurd (none-ne-some t y))
 
-pub done_none : (o : Option Fault) → Done ≡ loaded o → o ≡ none
+pub done_none : (o : Option Fault) → (Ok tt) ≡ loaded o → o ≡ none
 done_none none e = refl
 done_none (some f) e = cc
 
-pub faulty-some : (o : Option Fault) {f : Fault} → Faulty f ≡ loaded o → o ≡ some f
+pub faulty-some : (o : Option Fault) {f : Fault} → Err f ≡ loaded o → o ≡ some f
 faulty-some none e = cc
 faulty-some (some g) e = cc

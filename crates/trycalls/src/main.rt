@@ -9,7 +9,6 @@ ghost use Rattle.trycalls.specs.Runs.{Answers, Serves, Runs};
 
 use call_lines::TOLD_ROOM;
 use image::ROOM;
-use image_transfer::Loaded;
 use program_io::{Desk, PIECE_ROOM};
 use request_lines::MOST_TOLD;
 use std::io::{Read, Write};
@@ -50,6 +49,7 @@ fn serve<R: Read, W: Write>(
     let mut line = [0u8; LONGEST_LINE + 1];
     let mut out = [0u8; TOLD_ROOM];
     let mut d = program_io::refill(rt, program_io::start(), input, &mut piece);
+    // by hand: the desk says whether anything is left to read
     while d.at < d.end {
         d = program_io::next_line(d, &piece, &mut line);
         d = answer(rt, store, d, &line, &mut out, output);
@@ -74,8 +74,8 @@ fn run<F: Read + Drop, R: Read, W: Write>(
     let n = file.len;
     let mut store = [0u8; ROOM];
     match image_transfer::read_image(&octets[0..n], &mut store) {
-        Loaded::Done => serve(rt, &mut store, input, output),
-        Loaded::Faulty(f) => {
+        Ok(()) => serve(rt, &mut store, input, output),
+        Err(f) => {
             let mut out = [0u8; MOST_TOLD];
             let end = request_lines::tell_refusal(&mut out, f);
             program_io::write(rt, program_io::start(), output, &out[0..end])

@@ -9,7 +9,6 @@ ghost use Rattle.program_io.specs.Desk.{piece_room};
 ghost use Rattle.request_lines.specs.Report.{most_told};
 ghost use Rattle.tryreq.specs.Runs.{Answers, Due, Reports, Runs};
 
-use image_judge::Surveyed;
 use image_layout::Layout;
 use program_io::{Desk, PIECE_ROOM};
 use request_lines::MOST_TOLD;
@@ -63,6 +62,7 @@ fn serve<R: Read, W: Write>(
     let mut out = [0u8; PIECE_ROOM];
     let mut used = 0;
     let mut d = program_io::refill(rt, program_io::start(), input, &mut piece);
+    // by hand: the desk says whether anything is left to read
     while d.at < d.end {
         d = program_io::next_line(d, &piece, &mut line);
         used = answer(image, l, d, &line, &mut out, used);
@@ -90,8 +90,8 @@ fn run<F: Read + Drop, R: Read, W: Write>(
     let octets = file.octets;
     let n = file.len;
     match image::survey_image(&octets[0..n]) {
-        Surveyed::Laid(l) => serve(rt, &octets[0..n], l, input, output),
-        Surveyed::Bad(f) => {
+        Ok(l) => serve(rt, &octets[0..n], l, input, output),
+        Err(f) => {
             let mut out = [0u8; MOST_TOLD];
             let end = request_lines::tell_refusal(&mut out, f);
             program_io::write(rt, program_io::start(), output, &out[0..end])

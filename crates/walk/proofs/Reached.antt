@@ -8,8 +8,8 @@ use native.Mathlib.Nat.{zero-add}
 use native.Mathlib.Omega.{arith}
 use lib.ListN.{length, take, drop, length-drop}
 use lib.Seq.{length-take-le, take-take, take_at}
-use Rattle.answers.specs.declared.Written.{Written}
-use Rattle.answers.specs.declared.Written.TheVariants.{Length}
+use Rattle.std.specs.Prelude.{Ok}
+use Rattle.answers.specs.Types.{Written}
 use Rattle.numbers.specs.BigEndian.{Octets}
 use Rattle.numbers.specs.Laid.{laid}
 use Rattle.numbers.proofs.BigEndian.{octets-drop, octets-take}
@@ -87,7 +87,7 @@ module _ (w : List ℕ) (o : Octets w) (t : Table) (column at end : ℕ) (m : Ro
       key-bytes : row_bytes (key_fields t) (values_of t (row_of t row)) ≡ slice
       key-bytes = key-fields t row ∙ front_bytes t row row-octets m.whole ∙ sym slice_is
 
-      pub hands-row : {parts parts' key key' : List ℕ} {r : Written} {k : ℕ} → Encodes t column slice parts parts' r → length parts ≡ 128 → r ≡ Length k
+      pub hands-row : {parts parts' key key' : List ℕ} {r : Written} {k : ℕ} → Encodes t column slice parts parts' r → length parts ≡ 128 → r ≡ Ok k
           → key' ≡ laid 0 slice key → Hands (reaching (some (instance_of t column (row_of t row)))) parts parts' key key' (Next k t column n)
       hands-row {parts = parts} {key = key} {k = k} enc l f h =
           let i : instance t column (row_index t (row_of t row)) ≡ instance t column (index_of t slice) =

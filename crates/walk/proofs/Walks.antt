@@ -5,6 +5,7 @@ use mathlib.Core.Bool.{true, ◌&&◌}
 use mathlib.Core.List.{List, [], map}
 use mathlib.Core.Option.{Option}
 use Prim.Native.Nat.{ℕ}
+use Rattle.std.specs.Prelude.{Ok, Err}
 use Rattle.answers.specs.declared.Cause.{Cause}
 use Rattle.answers.specs.declared.Fault.{Fault}
 use Rattle.numbers.specs.Laid.{laid}
@@ -18,7 +19,6 @@ use Rattle.rows.specs.Tables.{Tables}
 use Rattle.image_layout.specs.declared.Extent.{Extent}
 use Rattle.image_layout.specs.declared.Layout.{Layout}
 use Rattle.image_layout.specs.Layout.{rows_in, layout_of}
-use Rattle.image_judge.specs.declared.Surveyed.TheVariants.{Bad}
 use Rattle.image_judge.specs.Faults.{SoundTable, SoundLayout, surveyed, tables_at}
 use Rattle.image_judge.proofs.Sound.{ascends-rows}
 use Rattle.image.specs.Store.{call_fault, held}
@@ -26,7 +26,6 @@ use Rattle.image.proofs.Surveys.{Called, call-refused}
 use Rattle.decision_steps.specs.Request.{read}
 use Rattle.decision_parts.specs.declared.Authorized.{Authorized}
 use Rattle.decision_parts.specs.declared.NamedView.{NamedView}
-use Rattle.decision_parts.specs.declared.Standing.TheVariants.{Denied, Viewed}
 use Rattle.decision_parts.specs.Parts.{rows_of, saying, Authorizes}
 use Rattle.decision_parts.proofs.Decisions.{viewed-decision}
 use Rattle.edit_rules.specs.TableRows as table-rows
@@ -71,10 +70,10 @@ module _ {w : List ℕ} {l : Layout} {model : ℕ} {name : List ℕ} {level : �
   unfolding walk_on
   by-authority = rw h (ap (λ a. if_viewed a (reaching here)) (sym k.standing.is))
 
-  pub walk-denied : {cause : Cause} → r.standing ≡ Denied cause → walk_on ts c identifier ≡ refusal (Walked.Denied cause)
+  pub walk-denied : {cause : Cause} → r.standing ≡ Err cause → walk_on ts c identifier ≡ refusal (Walked.Denied cause)
   walk-denied e = by-authority ∙ ap (λ s. if_viewed (saying w s) (reaching here)) e
 
-  module _ {v : NamedView} (e : r.standing ≡ Viewed v) where
+  module _ {v : NamedView} (e : r.standing ≡ Ok v) where
     follows-stops : (i : Instance) → follows ts c identifier i ≡ stops (rows_of w v) identifier i
     unfolding follows stops may_read readable
     follows-stops i = ap (λ d. before identifier i.identifier && is_allowed d) (sym (viewed-decision k i.identifier e))
@@ -88,7 +87,7 @@ module _ {w : List ℕ} {l : Layout} {model : ℕ} {name : List ℕ} {level : �
 -- ---- the call: 6, 7, or the walk on the tables held
 
 module _ (w : List ℕ) (c : Caller) (identifier : List ℕ) where
-  pub walk_refused : {f : Fault} → Bad f ≡ surveyed (call_fault w (legal_walk c identifier)) (layout_of w)
+  pub walk_refused : {f : Fault} → Err f ≡ surveyed (call_fault w (legal_walk c identifier)) (layout_of w)
       → walk_in (held w) c identifier ≡ refusal (Walked.Faulty f)
   unfolding walk_on
   walk_refused e =

@@ -3,22 +3,18 @@
 #![tactic(auto)]
 
 ghost use Rattle.std.specs.Prelude.{◌≡◌, true, ◌≤◌, leb, length};
+ghost use Rattle.std.specs.Prelude.{Some};
 ghost use Rattle.rows.specs.Rows.{key_max};
 ghost use Rattle.image_judge.specs.Faults.{SoundLayout, tables_at};
 ghost use Rattle.decision_steps.specs.Request.{most_parts};
 ghost use Rattle.edit_rules.specs.Edits.{caller_of};
 ghost use Rattle.walk_rules.specs.Walk.{reaching, legal_walk, walk_on, Walks, LegalKey};
-ghost use Rattle.walk_find.specs.declared.Met.TheVariants.{Row};
 ghost use Rattle.walk_find.specs.Met.{instance_at, RowMet, MetIn};
 ghost use Rattle.walk.specs.Hands.{Hands};
 
-use answers::Written;
 use decision::MOST_PARTS;
-use decision_parts::Standing;
-use image_judge::Surveyed;
 use image_layout::Layout;
 use rows::{KEY_MAX, Table};
-use walk_find::Met;
 use walk_rules::Walked;
 
 // The view type of a read request.
@@ -39,31 +35,36 @@ fn hand_row(
     requires row { RowMet w.now t column at end }
     requires parts { length parts.old ≡ most_parts }
     requires room { key_max ≤ length key.old }
-    ensures { Hands (reaching (instance_at w.now (Row t column at end))) parts.old parts.new
+    ensures { Hands (reaching (instance_at w.now (Some (t, column, at, end)))) parts.old parts.new
         key.old key.new result }
 {
     let n = walk_rows::key_end(t, &w[at..end]);
     let to = at + n;
     match instance_encode::encode(t, column, &w[at..to], parts) {
-        Written::Length(m) => {
+        Ok(m) => {
             splice::copy_in(key, 0, &w[at..to]);
             Walked::Next(m, t, column, n)
         }
         // a listed column of a legal key has room in 128 parts
-        Written::Unwritten(f) => Walked::Faulty(f),
+        Err(f) => Walked::Faulty(f),
     }
 }
 
 // Hands back the instance at which a walk stops, if it does.
-fn hand_back(w: &[u8], met: Met, parts: &mut [u32], key: &mut [u8]) -> Walked
+fn hand_back(
+    w: &[u8],
+    met: Option<(Table, u32, usize, usize)>,
+    parts: &mut [u32],
+    key: &mut [u8],
+) -> Walked
     requires met { MetIn w.now met }
     requires parts { length parts.old ≡ most_parts }
     requires room { key_max ≤ length key.old }
     ensures { Hands (reaching (instance_at w.now met)) parts.old parts.new key.old key.new result }
 {
     match met {
-        Met::Row(t, column, at, end) => hand_row(w, t, column, at, end, parts, key),
-        Met::Nothing => Walked::EndOfMibView,
+        Some((t, column, at, end)) => hand_row(w, t, column, at, end, parts, key),
+        None => Walked::EndOfMibView,
     }
 }
 
@@ -100,8 +101,8 @@ fn walk_tables(
     );
     let standing = authorized.standing;
     match standing {
-        Standing::Denied(cause) => Walked::Denied(cause),
-        Standing::Viewed(v) => {
+        Err(cause) => Walked::Denied(cause),
+        Ok(v) => {
             let met = walk_find::in_tables(w, l, v, identifier);
             hand_back(w, met, parts, key)
         },
@@ -132,7 +133,7 @@ pub fn walk(
     let caller = edit_rules::is_caller(security_model, security_name, security_level);
     let legal = caller & is_short(identifier);
     match image::survey_call(store, legal) {
-        Surveyed::Laid(l) => walk_tables(
+        Ok(l) => walk_tables(
             store,
             l,
             security_model,
@@ -142,6 +143,6 @@ pub fn walk(
             parts,
             key,
         ),
-        Surveyed::Bad(f) => Walked::Faulty(f),
+        Err(f) => Walked::Faulty(f),
     }
 }

@@ -39,7 +39,7 @@ fn skip_octets(octets: &[u8], parts: &[u32], n: usize) -> usize
 fn same_octets(octets: &[u8], parts: &[u32]) -> usize
     ensures { Alike result parts.now octets.now }
 {
-    let n = numbers::least(octets.len(), parts.len());
+    let n = octets.len().min(parts.len());
     let mut i = skip_octets(octets, parts, n);
     while i < n {
         if parts[i] as usize != numbers::wide(octets[i]) {
@@ -55,7 +55,7 @@ fn same_quads(bytes: &[u8], count: usize, parts: &[u32]) -> usize
     requires { 4 * count ≤ length bytes.now }
     ensures { Alike result parts.now (numbers quad count bytes.now) }
 {
-    let n = numbers::least(count, parts.len());
+    let n = count.min(parts.len());
     let mut i = 0;
     while i < n {
         if parts[i] as usize != numbers::quad_at(bytes, 4 * i) {

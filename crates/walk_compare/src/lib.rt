@@ -8,35 +8,27 @@ ghost use Rattle.walk_compare.specs.Onward.{GoesOn};
 
 // ---- a common front of identifiers
 
-// Where an identifier goes on behind a front: from which of its parts on it is to be compared, none of them where all that has the front is above it.
-// Behind: it is above all that has the front.
-#[derive(Clone, Copy)]
-pub enum Onward {
-    From(usize),
-    Behind,
-}
-
 // The identifier beside the front.
-pub fn past(identifier: &[u32], front: &[u8]) -> Onward
+pub fn past(identifier: &[u32], front: &[u8]) -> Option<usize>
     ensures { GoesOn identifier.now front.now result }
 {
     let n = front.len();
     let mut i = 0;
     while i < n {
         if identifier.len() <= i {
-            return Onward::From(i);
+            return Some(i);
         }
         let x = identifier[i] as usize;
         let y = numbers::wide(front[i]);
         if x < y {
-            return Onward::From(identifier.len());
+            return Some(identifier.len());
         }
         if y < x {
-            return Onward::Behind;
+            return None;
         }
         i += 1;
     }
-    Onward::From(i)
+    Some(i)
 }
 
 // ---- the index of a key, in its three runs

@@ -11,6 +11,7 @@ use Prim.Native.Nat.{ℕ, ◌-◌, ◌≤◌}
 use native.Mathlib.Omega.{arith}
 use lib.ListN.{length, take, drop, length-drop}
 use lib.Seq.{take_all}
+use Rattle.std.specs.Prelude.{Some, None}
 use Rattle.numbers.specs.Lists.{keep, find}
 use Rattle.numbers.specs.Order.{before}
 use Rattle.numbers.proofs.Bools.{split}
@@ -21,8 +22,7 @@ use Rattle.rows.specs.Rows.{ViewRow}
 use Rattle.instance_encode.specs.Instances.{base, instance}
 use Rattle.edit_rules.specs.TableRows.{RowOf, row_index}
 use Rattle.walk_rules.specs.Walk.{Instance, instance_of, of_columns}
-use Rattle.walk_compare.specs.declared.Onward.{Onward}
-use Rattle.walk_compare.specs.declared.Onward.TheVariants.{From, Behind}
+use Rattle.walk_compare.specs.Types.{Onward}
 use Rattle.walk_compare.specs.Onward.{onward, GoesOn}
 use Rattle.walk_rows.specs.Reading.{readable, readable_row}
 use Rattle.walk_compare.proofs.Fronts.{before_left, before-front}
@@ -53,18 +53,18 @@ module _ {A : Type 0} (p : A → Bool) where
 -- ---- an identifier beside a front
 
 module _ {o f : List ℕ} {r : Onward} (g : GoesOn o f r) where
-  pub left-place : {k : ℕ} → r ≡ From k → k ≤ length o
-  left-place {k} e = let h : GoesOn o f (From k) = rw e at g in h.place
+  pub left-place : {k : ℕ} → r ≡ Some k → k ≤ length o
+  left-place {k} e = let h : GoesOn o f (Some k) = rw e at g in h.place
 
-  pub left_is : {k : ℕ} → r ≡ From k → some (drop k o) ≡ onward o f
-  left_is {k} e = let h : GoesOn o f (From k) = rw e at g in h.is
+  pub left_is : {k : ℕ} → r ≡ Some k → some (drop k o) ≡ onward o f
+  left_is {k} e = let h : GoesOn o f (Some k) = rw e at g in h.is
 
   -- the slice that is left
-  pub left-slice : {k : ℕ} → r ≡ From k → some (take (length o - k) (drop k o)) ≡ onward o f
+  pub left-slice : {k : ℕ} → r ≡ Some k → some (take (length o - k) (drop k o)) ≡ onward o f
   left-slice {k} e = ap some (take_all (length o - k) (drop k o) (omega (arith, length-drop k o))) ∙ left_is e
 
-  pub above-is : r ≡ Behind → none ≡ onward o f
-  above-is e = let h : GoesOn o f Behind = rw e at g in h.is
+  pub above-is : r ≡ None → none ≡ onward o f
+  above-is e = let h : GoesOn o f None = rw e at g in h.is
 
 -- ---- a row of a column
 

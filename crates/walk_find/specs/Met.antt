@@ -2,6 +2,7 @@
 -- in the bytes of an image. Assumes nothing.
 use Rattle.std.specs.Prelude.{◌≡◌, Bool, true, ◌&&◌, List, map, ℕ, ◌≤◌, length, drop}
 use Rattle.std.proofs.Math.Option.{Option, none, some}
+use Rattle.std.specs.Prelude.{Some, None}
 use Rattle.numbers.specs.Lists.{find}
 use Rattle.numbers.specs.Order.{before}
 use Rattle.rows.specs.declared.Table.{Table}
@@ -16,8 +17,7 @@ use Rattle.edit_rules.specs.TableRows.{RowOf, row_of, row_index}
 use Rattle.walk_rules.specs.Walk.{Instance, instance_of, of_columns}
 use Rattle.walk_compare.specs.Onward.{onward}
 use Rattle.walk_rows.specs.Reading.{readable, readable_row}
-use Rattle.walk_find.specs.declared.Met.{Met}
-use Rattle.walk_find.specs.declared.Met.TheVariants.{Row, Nothing}
+use Rattle.walk_find.specs.Types.{Met}
 
 -- ---- the instance at which a walk stops
 
@@ -41,8 +41,8 @@ pub record LeftAt (t : Table) (identifier : List ℕ) (k : ℕ) : Type 0 where
 -- ---- met, where it lies
 
 abbrev pub instance_at : List ℕ → Met → Option Instance
-instance_at w (Row t column at end) = some (instance_of t column (row_of t (part w at end)))
-instance_at w Nothing = none
+instance_at w (Some (t, column, at, end)) = some (instance_of t column (row_of t (part w at end)))
+instance_at w None = none
 
 pub record RowMet (w : List ℕ) (t : Table) (column at end : ℕ) : Type 0 where
   pub lies : Lies w at end
@@ -50,8 +50,8 @@ pub record RowMet (w : List ℕ) (t : Table) (column at end : ℕ) : Type 0 wher
   pub listed : lists t column ≡ true
 
 abbrev pub MetIn : List ℕ → Met → Type 0
-MetIn w (Row t column at end) = RowMet w t column at end
-MetIn w Nothing = Unit {0}
+MetIn w (Some (t, column, at, end)) = RowMet w t column at end
+MetIn w None = Unit {0}
 
 pub record Meets (w : List ℕ) (r : Met) (choice : Option Instance) : Type 0 where
   pub row : MetIn w r

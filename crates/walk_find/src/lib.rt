@@ -15,23 +15,14 @@ ghost use Rattle.walk_rules.specs.Walk.{instances};
 ghost use Rattle.walk_rows.specs.Reading.{readable_row};
 ghost use Rattle.walk_find.specs.Met.{passing, stops, first_in, LeftAt, Meets};
 
-use decision_find::Found;
 use decision_parts::NamedView;
 use image_layout::{Extent, Layout};
 use rows::Table;
-use walk_compare::Onward;
-
-// The row at which a walk stops: its table, the column, and where it lies in the image.
-#[derive(Clone, Copy)]
-pub enum Met {
-    Row(Table, u32, usize, usize),
-    Nothing,
-}
 
 // ---- one column
 
 // The first row of a column whose instance the view lets be read.
-fn first_row(w: &[u8], x: Extent, v: NamedView, t: Table, column: u32) -> Found
+fn first_row(w: &[u8], x: Extent, v: NamedView, t: Table, column: u32) -> Option<(usize, usize)>
     requires rows { SoundTable t w.now x }
     requires view { ViewIn w.now v }
     requires listed { lists t column ≡ true }
@@ -45,17 +36,24 @@ fn first_row(w: &[u8], x: Extent, v: NamedView, t: Table, column: u32) -> Found
     while i < n {
         let e = o + image_layout::pair_at(w, g);
         if walk_rows::is_row_readable(w, v, t, column, &w[o..e]) {
-            return Found::Row(o, e);
+            return Some((o, e));
         }
         g += 2;
         o = e;
         i += 1;
     }
-    Found::Nothing
+    None
 }
 
 // The same among the rows whose column and index are above the parts.
-fn in_column(w: &[u8], x: Extent, v: NamedView, t: Table, column: u8, parts: &[u32]) -> Found
+fn in_column(
+    w: &[u8],
+    x: Extent,
+    v: NamedView,
+    t: Table,
+    column: u8,
+    parts: &[u32],
+) -> Option<(usize, usize)>
     requires rows { SoundTable t w.now x }
     requires view { ViewIn w.now v }
     requires listed { lists t column ≡ true }
@@ -64,8 +62,8 @@ fn in_column(w: &[u8], x: Extent, v: NamedView, t: Table, column: u8, parts: &[u
 {
     let front = [column];
     let onward = walk_compare::past(parts, &front);
-    let Onward::From(k) = onward else {
-        return Found::Nothing;
+    let Some(k) = onward else {
+        return None;
     };
     let end = parts.len();
     let above = walk_seek::rows_above(w, x, t, &parts[k..end]);
@@ -75,7 +73,14 @@ fn in_column(w: &[u8], x: Extent, v: NamedView, t: Table, column: u8, parts: &[u
 // ---- the columns of a table
 
 // The first instance of a table above the identifier that the view lets be read; behind the base the identifier's parts from `k` on are left.
-fn in_columns(w: &[u8], x: Extent, v: NamedView, t: Table, identifier: &[u32], k: usize) -> Met
+fn in_columns(
+    w: &[u8],
+    x: Extent,
+    v: NamedView,
+    t: Table,
+    identifier: &[u32],
+    k: usize,
+) -> Option<(Table, u32, usize, usize)>
     requires rows { SoundTable t w.now x }
     requires view { ViewIn w.now v }
     requires left { LeftAt t identifier.now k }
@@ -87,17 +92,23 @@ fn in_columns(w: &[u8], x: Extent, v: NamedView, t: Table, identifier: &[u32], k
     let mut left = columns.count;
     while 0 < left {
         let found = in_column(w, x, v, t, column, &identifier[k..end]);
-        if let Found::Row(at, to) = found {
-            return Met::Row(t, column as u32, at, to);
+        if let Some((at, to)) = found {
+            return Some((t, column as u32, at, to));
         }
         column += 1;
         left -= 1;
     }
-    Met::Nothing
+    None
 }
 
 // The first instance of a table above the identifier that the view lets be read.
-fn in_table(w: &[u8], x: Extent, v: NamedView, t: Table, identifier: &[u32]) -> Met
+fn in_table(
+    w: &[u8],
+    x: Extent,
+    v: NamedView,
+    t: Table,
+    identifier: &[u32],
+) -> Option<(Table, u32, usize, usize)>
     requires rows { SoundTable t w.now x }
     requires view { ViewIn w.now v }
     ensures { Meets w.now result (first_in t (rows_of w.now v) identifier.now w.now x) }
@@ -105,8 +116,8 @@ fn in_table(w: &[u8], x: Extent, v: NamedView, t: Table, identifier: &[u32]) -> 
     let front = instance_encode::base_of(t);
     let n = instance_encode::base_len(t);
     let onward = walk_compare::past(identifier, &front[0..n]);
-    let Onward::From(k) = onward else {
-        return Met::Nothing;
+    let Some(k) = onward else {
+        return None;
     };
     in_columns(w, x, v, t, identifier, k)
 }
@@ -114,22 +125,27 @@ fn in_table(w: &[u8], x: Extent, v: NamedView, t: Table, identifier: &[u32]) -> 
 // ---- the tables, by their bases
 
 // The first instance of all above the identifier that the view lets be read.
-pub fn in_tables(w: &[u8], l: Layout, v: NamedView, identifier: &[u32]) -> Met
+pub fn in_tables(
+    w: &[u8],
+    l: Layout,
+    v: NamedView,
+    identifier: &[u32],
+) -> Option<(Table, u32, usize, usize)>
     requires tables { SoundLayout w.now l }
     requires view { ViewIn w.now v }
     ensures { Meets w.now result
         (find (stops (rows_of w.now v) identifier.now) (instances (tables_at w.now l))) }
 {
     let context = in_table(w, l.contexts, v, Table::Context, identifier);
-    let Met::Nothing = context else {
+    let None = context else {
         return context;
     };
     let mapping = in_table(w, l.mappings, v, Table::Mapping, identifier);
-    let Met::Nothing = mapping else {
+    let None = mapping else {
         return mapping;
     };
     let access = in_table(w, l.accesses, v, Table::Access, identifier);
-    let Met::Nothing = access else {
+    let None = access else {
         return access;
     };
     in_table(w, l.views, v, Table::View, identifier)

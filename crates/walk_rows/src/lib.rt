@@ -13,7 +13,7 @@ ghost use Rattle.instance_encode.specs.Instances.{lists, instance};
 ghost use Rattle.edit_rules.specs.TableRows.{row_of, row_index};
 ghost use Rattle.walk_rows.specs.Reading.{readable, readable_row};
 
-use answers::{Decision, Written};
+use answers::Decision;
 use decision::MOST_PARTS;
 use decision_parts::NamedView;
 use rows::Table;
@@ -46,13 +46,10 @@ fn is_readable(w: &[u8], v: NamedView, t: Table, column: u32, key: &[u8]) -> boo
 {
     let mut parts = [0u32; MOST_PARTS];
     let written = instance_encode::encode(t, column, key, &mut parts);
-    let Written::Length(n) = written else {
+    let Ok(n) = written else {
         return false;
     };
-    match decision::decide_variable_in(w, v, &parts[0..n]) {
-        Decision::Allowed => true,
-        Decision::Refused(_) => false,
-    }
+    decision::decide_variable_in(w, v, &parts[0..n]).is_ok()
 }
 
 // Whether the row's index is above the parts.

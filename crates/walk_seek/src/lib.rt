@@ -17,7 +17,7 @@ pub fn rows_above(w: &[u8], x: Extent, t: Table, parts: &[u32]) -> Extent
     let mut lo = 0;
     let mut hi = n;
     let mut o = x.rows;
-    // rows before `lo`, which lies at `o`, are not above, and rows from `hi` on are
+    // by hand: the rows lie in bytes, and the library bisects slices alone; rows before `lo`, which lies at `o`, are not above, and rows from `hi` on are
     while lo < hi {
         let m = image_layout::middle_row(w, x, lo, hi, o);
         let row = m.row;

@@ -1,8 +1,8 @@
 -- Each case has its number. Assumes nothing.
 use Rattle.bench.proofs.length_number.Goals as goal
 
-pub returns-in-Length : goal.returns-in-Length
-returns-in-Length c = rw c.in-Length.is
+pub returns-in-Ok : goal.returns-in-Ok
+returns-in-Ok c = rw c.in-Ok.is
 
-pub returns-in-Unwritten : goal.returns-in-Unwritten
-returns-in-Unwritten c = rw (c.in-Unwritten.is, c.fault_number.ensures)
+pub returns-in-Err : goal.returns-in-Err
+returns-in-Err c = rw (c.in-Err.is, c.fault_number.ensures)

@@ -18,8 +18,8 @@ returns-in_default c = let a = c.args in none_told a.t a.room.now c.in_default.i
 
 pub put_octet-next-requires : goal.put_octet-next-requires
 put_octet-next-requires c =
-    let text : List ℕ = let a = c.args in row_text a.t (values (row_fields a.t) (take (c.in-Row.n - 0) a.room.now)) in
-    let text_is : let a = c.args in shown_text a.t (fields_in a.t a.shown a.room.now) ≡ 32 ∷ text = let a = c.args in row-text a.t a.room.now c.in-Row.is in
+    let text : List ℕ = let a = c.args in row_text a.t (values (row_fields a.t) (take (c.in-Some.n - 0) a.room.now)) in
+    let text_is : let a = c.args in shown_text a.t (fields_in a.t a.shown a.room.now) ≡ 32 ∷ text = let a = c.args in row-text a.t a.room.now c.in-Some.is in
     let whole : let a = c.args in Onward (32 ∷ text) a.at a.out.now (32 ∷ text) a.at a.out.now = begun (rw text_is at c.requires.room) in
     room (32 ∷ []) text whole
 
@@ -27,19 +27,19 @@ put_octet-next-requires c =
 
 pub put_entry-requires : goal.put_entry-requires
 put_entry-requires c =
-    let text : List ℕ = let a = c.args in row_text a.t (values (row_fields a.t) (take (c.in-Row.n - 0) a.room.now)) in
-    let text_is : let a = c.args in shown_text a.t (fields_in a.t a.shown a.room.now) ≡ 32 ∷ text = let a = c.args in row-text a.t a.room.now c.in-Row.is in
+    let text : List ℕ = let a = c.args in row_text a.t (values (row_fields a.t) (take (c.in-Some.n - 0) a.room.now)) in
+    let text_is : let a = c.args in shown_text a.t (fields_in a.t a.shown a.room.now) ≡ 32 ∷ text = let a = c.args in row-text a.t a.room.now c.in-Some.is in
     let whole : let a = c.args in Onward (32 ∷ text) a.at a.out.now (32 ∷ text) a.at a.out.now = begun (rw text_is at c.requires.room) in
     let spaced : let a = c.args in Onward (32 ∷ text) a.at a.out.now (text) c.put_octet-next.result c.put_octet-next.new.out = step (32 ∷ []) text whole c.put_octet-next.ensures in
-    record { legal = row-sound c.args.t c.args.room.now c.in-Row.is c.requires.whole; room = (spaced).fits }
+    record { legal = row-sound c.args.t c.args.room.now c.in-Some.is c.requires.whole; room = (spaced).fits }
 
 pub returns : goal.returns
 returns c =
-    let text : List ℕ = let a = c.args in row_text a.t (values (row_fields a.t) (take (c.in-Row.n - 0) a.room.now)) in
-    let text_is : let a = c.args in shown_text a.t (fields_in a.t a.shown a.room.now) ≡ 32 ∷ text = let a = c.args in row-text a.t a.room.now c.in-Row.is in
+    let text : List ℕ = let a = c.args in row_text a.t (values (row_fields a.t) (take (c.in-Some.n - 0) a.room.now)) in
+    let text_is : let a = c.args in shown_text a.t (fields_in a.t a.shown a.room.now) ≡ 32 ∷ text = let a = c.args in row-text a.t a.room.now c.in-Some.is in
     let whole : let a = c.args in Onward (32 ∷ text) a.at a.out.now (32 ∷ text) a.at a.out.now = begun (rw text_is at c.requires.room) in
     let spaced : let a = c.args in Onward (32 ∷ text) a.at a.out.now (text) c.put_octet-next.result c.put_octet-next.new.out = step (32 ∷ []) text whole c.put_octet-next.ensures in
     rw text_is (last text spaced c.put_entry.ensures)
 
 pub slice_bounds-put_entry-end : goal.slice_bounds-put_entry-end
-slice_bounds-put_entry-end c = (row_in c.args.t c.args.room.now c.in-Row.is c.requires.whole).inside
+slice_bounds-put_entry-end c = (row_in c.args.t c.args.room.now c.in-Some.is c.requires.whole).inside

@@ -12,15 +12,15 @@ returns-in_default c = plays-as (asks-other _ (word-other _ c.in_default.is c.se
 
 pub overflow_add-end : goal.overflow_add-end
 overflow_add-end c =
-    let begun : Begun c.in-To.end c.args.line.now = word-begun _ c.in-To.is c.set_end.ensures in
+    let begun : Begun c.in-Some.end c.args.line.now = word-begun _ c.in-Some.is c.set_end.ensures in
     omega (arith, (begun).inside)
 
 pub play-requires : goal.play-requires
 play-requires c =
-    let begun : Begun c.in-To.end c.args.line.now = word-begun _ c.in-To.is c.set_end.ensures in
+    let begun : Begun c.in-Some.end c.args.line.now = word-begun _ c.in-Some.is c.set_end.ensures in
     record { short = (begun).short; place = omega (arith, (begun).inside); room = c.requires }
 
 pub returns : goal.returns
 returns c =
-    let begun : Begun c.in-To.end c.args.line.now = word-begun _ c.in-To.is c.set_end.ensures in
+    let begun : Begun c.in-Some.end c.args.line.now = word-begun _ c.in-Some.is c.set_end.ensures in
     plays-as (asks_set _ (begun).is) c.play.ensures

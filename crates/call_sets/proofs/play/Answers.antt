@@ -20,7 +20,7 @@ returns-in_default c =
 
 pub read_edits-read-requires : goal.read_edits-read-requires
 read_edits-read-requires c =
-    let called : let s = c.args in Called c.in-Said.model c.in-Said.slot c.in-Said.level c.in-Said.next s.line.now c.read_caller.new.bytes (caller_said (words_from s.at s.line.now)) = caller-called _ _ c.in-Said.is c.read_caller.ensures.calls in
+    let called : let s = c.args in Called c.in-Some.caller.model c.in-Some.caller.name c.in-Some.caller.level c.in-Some.caller.next s.line.now c.read_caller.new.bytes (caller_said (words_from s.at s.line.now)) = caller-called _ _ c.in-Some.is c.read_caller.ensures.calls in
     record {
       line_short = c.requires.short;
       at_in = (called).next_in;
@@ -34,7 +34,7 @@ read_edits-read-requires c =
 
 pub octets_in-name-requires : goal.octets_in-name-requires
 octets_in-name-requires c =
-    let called : let s = c.args in Called c.in-Said.model c.in-Said.slot c.in-Said.level c.in-Said.next s.line.now c.read_caller.new.bytes (caller_said (words_from s.at s.line.now)) = caller-called _ _ c.in-Said.is c.read_caller.ensures.calls in
+    let called : let s = c.args in Called c.in-Some.caller.model c.in-Some.caller.name c.in-Some.caller.level c.in-Some.caller.next s.line.now c.read_caller.new.bytes (caller_said (words_from s.at s.line.now)) = caller-called _ _ c.in-Some.is c.read_caller.ensures.calls in
     let w = (called).within in
     record {
       forward = w.forward;
@@ -47,13 +47,13 @@ make-requires c = c.requires.room
 
 pub returns-then-read : goal.returns-then-read
 returns-then-read c =
-    let called : let s = c.args in Called c.in-Said.model c.in-Said.slot c.in-Said.level c.in-Said.next s.line.now c.read_caller.new.bytes (caller_said (words_from s.at s.line.now)) = caller-called _ _ c.in-Said.is c.read_caller.ensures.calls in
+    let called : let s = c.args in Called c.in-Some.caller.model c.in-Some.caller.name c.in-Some.caller.level c.in-Some.caller.next s.line.now c.read_caller.new.bytes (caller_said (words_from s.at s.line.now)) = caller-called _ _ c.in-Some.is c.read_caller.ensures.calls in
     set-plays _ called (c.read_edits-read.ensures.reads.whole_is c.if-read.true) c.read_edits-read.ensures.keeps
     c.octets_in-name.ensures c.make.ensures
 
 pub returns : goal.returns
 unfolding Plays
 returns c =
-    let called : let s = c.args in Called c.in-Said.model c.in-Said.slot c.in-Said.level c.in-Said.next s.line.now c.read_caller.new.bytes (caller_said (words_from s.at s.line.now)) = caller-called _ _ c.in-Said.is c.read_caller.ensures.calls in
+    let called : let s = c.args in Called c.in-Some.caller.model c.in-Some.caller.name c.in-Some.caller.level c.in-Some.caller.next s.line.now c.read_caller.new.bytes (caller_said (words_from s.at s.line.now)) = caller-called _ _ c.in-Some.is c.read_caller.ensures.calls in
     plays-as (set-unsaid _ (called).is (c.read_edits-read.ensures.reads.not_whole c.if-read.false))
     (plays-told none _ (λ only. only) c.tell_fault-2.ensures)

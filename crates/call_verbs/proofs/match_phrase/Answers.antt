@@ -10,25 +10,25 @@ returns-in_default c = match-missing (word-missing _ _ (sym c.word_at.ensures �
 
 pub slice_bounds-match_named-count : goal.slice_bounds-match_named-count
 slice_bounds-match_named-count c =
-    let found : WordAt c.args.at c.args.line.now c.in-To.end = word-found _ _ (sym c.word_at.ensures ∙ c.in-To.is) in
+    let found : WordAt c.args.at c.args.line.now c.in-Some.end = word-found _ _ (sym c.word_at.ensures ∙ c.in-Some.is) in
     (found).forward
 
 pub slice_bounds-match_named-start : goal.slice_bounds-match_named-start
 slice_bounds-match_named-start c =
-    let found : WordAt c.args.at c.args.line.now c.in-To.end = word-found _ _ (sym c.word_at.ensures ∙ c.in-To.is) in
+    let found : WordAt c.args.at c.args.line.now c.in-Some.end = word-found _ _ (sym c.word_at.ensures ∙ c.in-Some.is) in
     (found).forward
 
 pub slice_bounds-match_named-end : goal.slice_bounds-match_named-end
 slice_bounds-match_named-end c =
-    let found : WordAt c.args.at c.args.line.now c.in-To.end = word-found _ _ (sym c.word_at.ensures ∙ c.in-To.is) in
+    let found : WordAt c.args.at c.args.line.now c.in-Some.end = word-found _ _ (sym c.word_at.ensures ∙ c.in-Some.is) in
     (found).inside
 
 pub overflow_add-next : goal.overflow_add-next
 overflow_add-next c =
-    let found : WordAt c.args.at c.args.line.now c.in-To.end = word-found _ _ (sym c.word_at.ensures ∙ c.in-To.is) in
+    let found : WordAt c.args.at c.args.line.now c.in-Some.end = word-found _ _ (sym c.word_at.ensures ∙ c.in-Some.is) in
     omega (arith, (found).inside)
 
 pub returns : goal.returns
 returns c =
-    let found : WordAt c.args.at c.args.line.now c.in-To.end = word-found _ _ (sym c.word_at.ensures ∙ c.in-To.is) in
+    let found : WordAt c.args.at c.args.line.now c.in-Some.end = word-found _ _ (sym c.word_at.ensures ∙ c.in-Some.is) in
     match-word found c.match_named-verb.ensures

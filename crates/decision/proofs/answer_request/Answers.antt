@@ -4,7 +4,7 @@ use mathlib.Core.Path.{◌≡◌, sym, ap, ◌∙◌}
 use mathlib.Core.Bool.{true, false}
 use Prim.Native.Nat.{◌≤◌}
 use lib.ListN.{length}
-use Rattle.answers.specs.declared.Answer.TheVariants.{Decided}
+use Rattle.std.specs.Prelude.{Ok}
 use Rattle.decision_steps.specs.Request.{Request, asked, legal_request, most_parts}
 use Rattle.decision.proofs.Answers.{variable-few}
 use Rattle.decision.proofs.answer_request.Goals as goal
@@ -29,4 +29,4 @@ unfolding legal_request
 returns c =
     let request : Request = let a = c.args in asked a.security_model a.security_name.now a.security_level a.view_type a.context_name.now a.variable_name.now in
     let legal : legal_request (request) ≡ true = sym c.in_range.ensures ∙ c.if-not-in_range.false in
-    ap Decided c.decide_variable.ensures ∙ sym (rw legal)
+    ap Ok c.decide_variable.ensures ∙ sym (rw legal)

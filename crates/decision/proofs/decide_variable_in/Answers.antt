@@ -5,7 +5,7 @@ use Rattle.decision_steps.specs.Decision.{or_refused, by_type}
 use Rattle.decision.proofs.decide_variable_in.Goals as goal
 
 pub by_row-requires : goal.by_row-requires
-by_row-requires c = let k = c.variable_row_in-row.ensures in record { lies = k.lies; whole = k.whole }
+by_row-requires c = let k = c.variable_row_in.ensures in record { lies = k.lies; whole = k.whole }
 
 pub returns : goal.returns
-returns c = c.by_row.ensures ∙ ap (λ o. or_refused NotInView o by_type) c.variable_row_in-row.ensures.is
+returns c = c.by_row.ensures ∙ ap (λ o. or_refused NotInView o by_type) c.variable_row_in.ensures.is

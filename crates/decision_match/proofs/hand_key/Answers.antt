@@ -24,31 +24,31 @@ returns-in_default c =
     let g = c.in_default.is in
     let whole = rw (row-split a.t) at c.requires.whole in
     let e =
-    sym g ∙ fields-stop (key_fields a.t) a.row.now 0 c.judge_front-judged.ensures g (rest_fields a.t) 0 ∙ ap (λ o. reached o 0) whole in
+    sym g ∙ fields-stop (key_fields a.t) a.row.now 0 c.judge_front.ensures g (rest_fields a.t) 0 ∙ ap (λ o. reached o 0) whole in
     record { counts = cc; lays = cc }
 
 pub slice_bounds-copy_in-end : goal.slice_bounds-copy_in-end
 slice_bounds-copy_in-end c =
-    let at-end : let a = c.args in span (key_fields a.t) a.row.now ≡ c.in-At.n = let a = c.args in omega (arith, fields-end (key_fields a.t) a.row.now 0 c.judge_front-judged.ensures c.in-At.is) in
+    let at-end : let a = c.args in span (key_fields a.t) a.row.now ≡ c.in-Ok.n = let a = c.args in omega (arith, fields-end (key_fields a.t) a.row.now 0 c.judge_front.ensures c.in-Ok.is) in
     omega (arith, at-end, key_room c.args.t c.args.row.now c.requires.whole)
 
 pub copy_in-requires : goal.copy_in-requires
 copy_in-requires c =
-    let row-octets : Octets c.args.row.now = λ i. omega (arith, c.shared_slice_known-1.given i) in
-    let at-end : let a = c.args in span (key_fields a.t) a.row.now ≡ c.in-At.n = let a = c.args in omega (arith, fields-end (key_fields a.t) a.row.now 0 c.judge_front-judged.ensures c.in-At.is) in
+    let row-octets : Octets c.args.row.now = λ i. omega (arith, c.type_inv.row i) in
+    let at-end : let a = c.args in span (key_fields a.t) a.row.now ≡ c.in-Ok.n = let a = c.args in omega (arith, fields-end (key_fields a.t) a.row.now 0 c.judge_front.ensures c.in-Ok.is) in
     omega (
       arith,
       at-end,
-      length-take (c.in-At.n - 0) c.args.row.now,
+      length-take (c.in-Ok.n - 0) c.args.row.now,
       front-short c.args.t c.args.row.now row-octets c.requires.whole,
       c.requires.room,
     )
 
 pub returns : goal.returns
 returns c =
-    let at-end : let a = c.args in span (key_fields a.t) a.row.now ≡ c.in-At.n = let a = c.args in omega (arith, fields-end (key_fields a.t) a.row.now 0 c.judge_front-judged.ensures c.in-At.is) in
+    let at-end : let a = c.args in span (key_fields a.t) a.row.now ≡ c.in-Ok.n = let a = c.args in omega (arith, fields-end (key_fields a.t) a.row.now 0 c.judge_front.ensures c.in-Ok.is) in
     let a = c.args in
-    let n = c.in-At.n in record {
+    let n = c.in-Ok.n in record {
       counts = sym at-end;
       lays = c.copy_in.ensures
           ∙ laid-paste 0 (take (n - 0) a.row.now) a.key.now

@@ -4,6 +4,7 @@ use mathlib.Core.Path.{◌≡◌, sym, ap, ◌∙◌}
 use mathlib.Core.Bool.{Bool}
 use lib.ListN.{length}
 use borrow.Author.Rules.{rules}
+use Rattle.answers.proofs.Results.{refusal}
 use Rattle.image_layout.specs.Layout.{layout_of}
 use Rattle.image_judge.specs.Faults.{surveyed}
 use Rattle.image.specs.Store.{call_fault}
@@ -19,25 +20,25 @@ pub access_row-requires : goal.access_row-requires
 access_row-requires c =
     let legal : Bool = let a = c.args in legal_access (length a.group_name.now) (length a.context_name.now) a.security_model a.security_level in
     let answered : let w = c.args.store.now in c.survey_call.result ≡ surveyed (call_fault w (legal)) (layout_of w) = let w = c.args.store.now in c.survey_call.ensures ∙ ap (λ b. surveyed (call_fault w b) (layout_of w)) c.is_legal_access-legal.ensures in
-    let called : Called c.args.store.now (legal) c.in-Laid.l = call-laid c.args.store.now legal (sym c.in-Laid.is ∙ answered) in
+    let called : Called c.args.store.now (legal) c.in_ok-l.l = call-laid c.args.store.now legal (sym c.in_ok-l.was ∙ answered) in
     let a = c.args in
     record { rows = (called).sound.accesses_sound; room = search rules }
 
-pub returns-in-Laid : goal.returns-in-Laid
-returns-in-Laid c =
+pub returns : goal.returns
+returns c =
     let legal : Bool = let a = c.args in legal_access (length a.group_name.now) (length a.context_name.now) a.security_model a.security_level in
     let answered : let w = c.args.store.now in c.survey_call.result ≡ surveyed (call_fault w (legal)) (layout_of w) = let w = c.args.store.now in c.survey_call.ensures ∙ ap (λ b. surveyed (call_fault w b) (layout_of w)) c.is_legal_access-legal.ensures in
-    let called : Called c.args.store.now (legal) c.in-Laid.l = call-laid c.args.store.now legal (sym c.in-Laid.is ∙ answered) in
+    let called : Called c.args.store.now (legal) c.in_ok-l.l = call-laid c.args.store.now legal (sym c.in_ok-l.was ∙ answered) in
     let a = c.args in
     rw
-    (access-legal a.store.now a.group_name.now a.context_name.now a.security_model a.security_level c.in-Laid.l called)
+    (access-legal a.store.now a.group_name.now a.context_name.now a.security_model a.security_level c.in_ok-l.l called)
     c.access_row.ensures
 
-pub returns-in-Bad : goal.returns-in-Bad
-returns-in-Bad c =
+pub returns-in_err-l : goal.returns-in_err-l
+returns-in_err-l c =
     let legal : Bool = let a = c.args in legal_access (length a.group_name.now) (length a.context_name.now) a.security_model a.security_level in
     let answered : let w = c.args.store.now in c.survey_call.result ≡ surveyed (call_fault w (legal)) (layout_of w) = let w = c.args.store.now in c.survey_call.ensures ∙ ap (λ b. surveyed (call_fault w b) (layout_of w)) c.is_legal_access-legal.ensures in
     let a = c.args in
-    hands-faulty
+    rw (refusal c.from_residual.ensures) (hands-faulty
     (access-refused a.store.now a.group_name.now a.context_name.now a.security_model a.security_level
-    (sym c.in-Bad.is ∙ answered))
+    (sym c.in_err-l.was ∙ answered)))

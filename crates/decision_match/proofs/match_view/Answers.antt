@@ -4,6 +4,7 @@ use mathlib.Core.Path.{◌≡◌, sym, ap, ◌∙◌}
 use mathlib.Core.Bool.{Bool}
 use lib.ListN.{length}
 use borrow.Author.Rules.{rules}
+use Rattle.answers.proofs.Results.{refusal}
 use Rattle.image_layout.specs.Layout.{layout_of}
 use Rattle.image_judge.specs.Faults.{surveyed}
 use Rattle.image.specs.Store.{call_fault}
@@ -19,21 +20,22 @@ pub view_row-requires : goal.view_row-requires
 view_row-requires c =
     let legal : Bool = let a = c.args in legal_view (length a.view_name.now) (length a.variable_name.now) in
     let answered : let w = c.args.store.now in c.survey_call.result ≡ surveyed (call_fault w (legal)) (layout_of w) = let w = c.args.store.now in c.survey_call.ensures ∙ ap (λ b. surveyed (call_fault w b) (layout_of w)) c.is_legal_view-legal.ensures in
-    let called : Called c.args.store.now (legal) c.in-Laid.l = call-laid c.args.store.now legal (sym c.in-Laid.is ∙ answered) in
+    let called : Called c.args.store.now (legal) c.in_ok-l.l = call-laid c.args.store.now legal (sym c.in_ok-l.was ∙ answered) in
     let a = c.args in
     record { rows = (called).sound.views_sound; parts = few-parts a.view_name.now a.variable_name.now (called).in_range; room = search rules }
 
-pub returns-in-Laid : goal.returns-in-Laid
-returns-in-Laid c =
+pub returns : goal.returns
+returns c =
     let legal : Bool = let a = c.args in legal_view (length a.view_name.now) (length a.variable_name.now) in
     let answered : let w = c.args.store.now in c.survey_call.result ≡ surveyed (call_fault w (legal)) (layout_of w) = let w = c.args.store.now in c.survey_call.ensures ∙ ap (λ b. surveyed (call_fault w b) (layout_of w)) c.is_legal_view-legal.ensures in
-    let called : Called c.args.store.now (legal) c.in-Laid.l = call-laid c.args.store.now legal (sym c.in-Laid.is ∙ answered) in
+    let called : Called c.args.store.now (legal) c.in_ok-l.l = call-laid c.args.store.now legal (sym c.in_ok-l.was ∙ answered) in
     let a = c.args in
-    rw (view-legal a.store.now a.view_name.now a.variable_name.now c.in-Laid.l called) c.view_row.ensures
+    rw (view-legal a.store.now a.view_name.now a.variable_name.now c.in_ok-l.l called) c.view_row.ensures
 
-pub returns-in-Bad : goal.returns-in-Bad
-returns-in-Bad c =
+pub returns-in_err-l : goal.returns-in_err-l
+returns-in_err-l c =
     let legal : Bool = let a = c.args in legal_view (length a.view_name.now) (length a.variable_name.now) in
     let answered : let w = c.args.store.now in c.survey_call.result ≡ surveyed (call_fault w (legal)) (layout_of w) = let w = c.args.store.now in c.survey_call.ensures ∙ ap (λ b. surveyed (call_fault w b) (layout_of w)) c.is_legal_view-legal.ensures in
     let a = c.args in
-    hands-faulty (view-refused a.store.now a.view_name.now a.variable_name.now (sym c.in-Bad.is ∙ answered))
+    rw (refusal c.from_residual.ensures) (hands-faulty
+    (view-refused a.store.now a.view_name.now a.variable_name.now (sym c.in_err-l.was ∙ answered)))

@@ -3,40 +3,34 @@
 use mathlib.Core.Path.{refl, sym, ap, ◌∙◌}
 use native.Mathlib.Omega.{arith}
 use Rattle.decision_steps.specs.Decision.{maps_principal}
-use Rattle.decision_steps.proofs.Layouts.{past, MappingAt, mapping-at}
+use Rattle.decision_steps.proofs.Layouts.{mapping-at}
 use Rattle.decision_steps.proofs.Steps.{maps-model, maps-name, maps-status}
 use Rattle.decision_steps.proofs.maps_principal.Goals as goal
 
 pub quad_at-requires : goal.quad_at-requires
 quad_at-requires c =
-    let whole : MappingAt c.args.row.now (past c.args.row.now 4) = mapping-at _ _ refl c.requires in
-    (whole).model
+    (mapping-at _ _ refl c.requires).model
 
 pub returns-then-quad_at-security_model : goal.returns-then-quad_at-security_model
 returns-then-quad_at-security_model c =
-    let whole : MappingAt c.args.row.now (past c.args.row.now 4) = mapping-at _ _ refl c.requires in
     maps-model _ _ _ (λ e. c.if-quad_at-security_model.true (c.quad_at.ensures.value ∙ e))
-    ∙ sym (ap (maps_principal c.args.security_model c.args.security_name.now) (whole).holds)
+    ∙ sym (ap (maps_principal c.args.security_model c.args.security_name.now) (mapping-at _ _ refl c.requires).holds)
 
 pub is_name-requires : goal.is_name-requires
 is_name-requires c =
-    let whole : MappingAt c.args.row.now (past c.args.row.now 4) = mapping-at _ _ refl c.requires in
-    (whole).name
+    (mapping-at _ _ refl c.requires).name
 
 pub returns-then-not-is_name : goal.returns-then-not-is_name
 returns-then-not-is_name c =
-    let whole : MappingAt c.args.row.now (past c.args.row.now 4) = mapping-at _ _ refl c.requires in
     maps-name _ _ _ (sym c.is_name.ensures ∙ c.if-not-is_name.true)
-    ∙ sym (ap (maps_principal c.args.security_model c.args.security_name.now) (whole).holds)
+    ∙ sym (ap (maps_principal c.args.security_model c.args.security_name.now) (mapping-at _ _ refl c.requires).holds)
 
 pub is_active-requires : goal.is_active-requires
 is_active-requires c =
-    let whole : MappingAt c.args.row.now (past c.args.row.now 4) = mapping-at _ _ refl c.requires in
-    omega (arith, (whole).model)
+    omega (arith, (mapping-at _ _ refl c.requires).model)
 
 pub returns : goal.returns
 returns c =
-    let whole : MappingAt c.args.row.now (past c.args.row.now 4) = mapping-at _ _ refl c.requires in
     c.is_active.ensures
     ∙ maps-status _ _ _ (sym c.quad_at.ensures.value ∙ c.if-quad_at-security_model.false) (sym c.is_name.ensures ∙ c.if-not-is_name.false)
-    ∙ sym (ap (maps_principal c.args.security_model c.args.security_name.now) (whole).holds)
+    ∙ sym (ap (maps_principal c.args.security_model c.args.security_name.now) (mapping-at _ _ refl c.requires).holds)

@@ -2,7 +2,7 @@
 -- and notifying, one behind the other. Assumes nothing.
 use mathlib.Core.Path.{refl, sym, ap, ◌∙◌}
 use Rattle.decision_steps.specs.Decision.{view_for}
-use Rattle.decision_steps.proofs.Layouts.{past, AccessAt, access-at, AccessFrom, access-from}
+use Rattle.decision_steps.proofs.Layouts.{access-at, access-from}
 use Rattle.decision_steps.proofs.Steps.{view-read, view-write, view-notify}
 use Rattle.decision_steps.proofs.view_at.Goals as goal
 
@@ -16,25 +16,21 @@ after-read-requires c = (access-from _ _ _ c.after-p.ensures.is refl c.requires)
 
 pub returns-then-view_type-eq-READ : goal.returns-then-view_type-eq-READ
 returns-then-view_type-eq-READ c =
-    let second : AccessFrom c.args.row.now c.after-p.result c.after-read.result = access-from _ _ _ c.after-p.ensures.is c.after-read.ensures.is c.requires in
-    let l = second in
+    let l = access-from _ _ _ c.after-p.ensures.is c.after-read.ensures.is c.requires in
     record { lies = l.read; is = view-read _ _ c.if-view_type-eq-READ.true ∙ sym (ap (view_for _) l.holds) }
 
 pub after-write-requires : goal.after-write-requires
 after-write-requires c =
-    let second : AccessFrom c.args.row.now c.after-p.result c.after-read.result = access-from _ _ _ c.after-p.ensures.is c.after-read.ensures.is c.requires in
-    (second).read
+    (access-from _ _ _ c.after-p.ensures.is c.after-read.ensures.is c.requires).read
 
 pub returns-then-view_type-eq-WRITE : goal.returns-then-view_type-eq-WRITE
 returns-then-view_type-eq-WRITE c =
-    let third : let row = c.args.row.now in AccessAt row c.after-p.result c.after-read.result c.after-write.result (past row c.after-write.result) = access-at _ _ _ _ _ c.after-p.ensures.is c.after-read.ensures.is c.after-write.ensures.is refl c.requires in
-    let l = third in
+    let l = access-at _ _ _ _ _ c.after-p.ensures.is c.after-read.ensures.is c.after-write.ensures.is refl c.requires in
     record { lies = l.write; is = view-write _ _ c.if-view_type-eq-READ.false c.if-view_type-eq-WRITE.true ∙ sym (ap (view_for _) l.holds) }
 
 pub after-requires : goal.after-requires
 after-requires c =
-    let third : let row = c.args.row.now in AccessAt row c.after-p.result c.after-read.result c.after-write.result (past row c.after-write.result) = access-at _ _ _ _ _ c.after-p.ensures.is c.after-read.ensures.is c.after-write.ensures.is refl c.requires in
-    (third).write
+    (access-at _ _ _ _ _ c.after-p.ensures.is c.after-read.ensures.is c.after-write.ensures.is refl c.requires).write
 
 pub returns : goal.returns
 returns c =

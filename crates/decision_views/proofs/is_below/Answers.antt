@@ -1,5 +1,5 @@
 use mathlib.Core.Path.{◌≡◌, refl, sym, ◌∙◌}
-use Prim.Native.Nat.{◌+◌}
+use Prim.Native.Nat.{◌+◌, ◌*◌}
 use lib.ListN.{drop}
 use native.Mathlib.Omega.{arith}
 use Rattle.decision_steps.specs.Decision.{agrees}
@@ -20,34 +20,30 @@ returns-then-mask_bit c =
 pub skip-i-requires : goal.skip-i-requires
 skip-i-requires c = record { begun = omega arith; first = omega arith; second = omega arith; known = refl }
 
-pub overflow_mul-k : goal.overflow_mul-k
-overflow_mul-k c = omega arith
-
-pub loop-k-init : goal.loop-k-init
-loop-k-init c =
-    let f = c.skip-i in
-    (refl, agrees-skip _ _ _ f.result (omega arith) (omega arith) f.ensures.equal)
+pub loop-i-init : goal.loop-i-init
+loop-i-init c = agrees-skip _ _ _ c.skip-i.result (omega arith) (omega arith) c.skip-i.ensures.equal
 
 pub returns-then-mask_bit-2 : goal.returns-then-mask_bit-2
 returns-then-mask_bit-2 c =
-    let l = c.loop-k in
-    let d = sym c.same_four-in-loop-k.ensures ∙ c.if-not-same_four-2.true in
-    sym (l.invariant.1 ∙ agrees-differ _ _ _ l.i l.k (omega arith) (omega arith) d (sym c.mask_bit-then-not-same_four-2.ensures ∙ c.if-mask_bit-2.true))
+    let l = c.loop-i in
+    let d = sym c.same_four-in-loop-i.ensures ∙ c.if-not-same_four-2.true in
+    sym (l.invariant ∙ agrees-differ _ _ _ l.i (4 * l.i) (omega arith) (omega arith) d (sym c.mask_bit-then-not-same_four-2.ensures ∙ c.if-mask_bit-2.true))
 
-pub loop-k-preserved : goal.loop-k-preserved
-loop-k-preserved c =
-    let l = c.loop-k in
-    let turn : agrees c.args.mask.now l.i (identifier (drop l.k c.args.subtree.now)) (identifier (drop l.k c.args.variable.now))
-    ≡ agrees c.args.mask.now (l.i + 1) (identifier (drop (l.k + 4) c.args.subtree.now)) (identifier (drop (l.k + 4) c.args.variable.now)) =
+pub loop-i-preserved : goal.loop-i-preserved
+loop-i-preserved c =
+    let l = c.loop-i in
+    let turn : agrees c.args.mask.now l.i (identifier (drop (4 * l.i) c.args.subtree.now)) (identifier (drop (4 * l.i) c.args.variable.now))
+    ≡ agrees c.args.mask.now (l.i + 1) (identifier (drop (4 * l.i + 4) c.args.subtree.now)) (identifier (drop (4 * l.i + 4) c.args.variable.now)) =
     elim c.if-not-same_four-2.branch [
       | then-not-same_four-2+else-mask_bit-2 w ↦
-          agrees_masked _ _ _ l.i l.k (omega arith) (omega arith) (sym w.mask_bit-then-not-same_four-2.ensures ∙ w.if-mask_bit-2.false)
+          agrees_masked _ _ _ l.i (4 * l.i) (omega arith) (omega arith) (sym w.mask_bit-then-not-same_four-2.ensures ∙ w.if-mask_bit-2.false)
       | else-not-same_four-2 w ↦
-          agrees-same _ _ _ l.i l.k (omega arith) (omega arith) (sym c.same_four-in-loop-k.ensures ∙ w.if-not-same_four-2.false)
+          agrees-same _ _ _ l.i (4 * l.i) (omega arith) (omega arith) (sym c.same_four-in-loop-i.ensures ∙ w.if-not-same_four-2.false)
     ] in
-    (omega arith, l.invariant.1 ∙ turn)
+    let e : 4 * (l.i + 1) ≡ 4 * l.i + 4 = omega arith in
+    rw e (l.invariant ∙ turn)
 
 pub returns : goal.returns
 returns c =
-    let l = c.loop-k in
-    sym (l.invariant.1 ∙ agrees-end _ _ _ l.i l.k (omega arith))
+    let l = c.loop-i in
+    sym (l.invariant ∙ agrees-end _ _ _ l.i (4 * l.i) (omega arith))

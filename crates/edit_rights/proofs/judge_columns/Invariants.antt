@@ -1,10 +1,10 @@
 -- `edit_rights::judge_columns` meets its contract. The loop's invariant: the first refusal among the columns that are left is the first of all, and the
--- variable is as found but for the part that is exchanged. The measure is how many columns are left. Assumes nothing.
+-- variable is as found but for the part that is exchanged. Assumes nothing.
 use mathlib.Core.Path.{◌≡◌}
 use mathlib.Core.List.{List}
-use Prim.Native.Nat.{ℕ, ◌+◌, ◌≤◌}
+use Prim.Native.Nat.{ℕ, ◌-◌}
 use lib.ListN.{length, set}
-use Rattle.answers.specs.declared.Decision.{Decision}
+use Rattle.answers.specs.Types.{Decision}
 use Rattle.decision_steps.specs.Decision.{step5}
 use Rattle.decision_parts.specs.declared.NamedView.{NamedView}
 use Rattle.decision_parts.specs.Parts.{rows_of}
@@ -16,9 +16,10 @@ use Rattle.edit_rights.proofs.judge_columns.Given as goal
 abbrev pub judged_by : List ℕ → NamedView → List ℕ → ℕ → ℕ → Decision
 judged_by w v variable at column = step5 (set variable at column) (rows_of w v)
 
-abbrev pub invariant-loop-left : goal.invariant-loop-left
-invariant-loop-left l = (length l.variable ≡ length l.initial.variable) × ((l.column + l.left ≤ 10) × (((x : ℕ) → set l.variable l.at x ≡ set l.initial.variable l.at x)
-    × (first_refusal (judged_by l.w l.v l.initial.variable l.at) (counted l.column l.left) ≡ first_refusal (judged_by l.w l.v l.initial.variable l.at) (counted l.initial.column l.initial.left))))
-
-abbrev pub decreases-loop-left : goal.decreases-loop-left
-decreases-loop-left l = l.left
+abbrev pub invariant-loop-column : goal.invariant-loop-column
+invariant-loop-column l = record {
+  long : length l.variable ≡ length l.initial.variable;
+  own : (x : ℕ) → set l.variable l.at x ≡ set l.initial.variable l.at x;
+  first : first_refusal (judged_by l.w l.v l.initial.variable l.at) (counted l.column (l.column-end - l.column))
+      ≡ first_refusal (judged_by l.w l.v l.initial.variable l.at) (counted l.first (l.column-end - l.first));
+}

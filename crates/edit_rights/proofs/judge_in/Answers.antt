@@ -18,24 +18,24 @@ use Rattle.edit_rights.proofs.judge_in.Goals as goal
 pub returns-in_default : goal.returns-in_default
 returns-in_default c =
     let listed : lists c.args.t c.columns_written-columns.result.first ≡ true = let a = c.args in let r = c.columns_written-columns in first-listed a.s a.t r.result.first r.result.count r.ensures.written in
-    absurd (encoded-always c.args.t _ c.args.key.now listed c.requires.whole c.encode-written.ensures refl c.in_default.is)
+    absurd (encoded-always c.args.t _ c.args.key.now listed c.requires.whole c.encode.ensures refl c.in_default.is)
 
 pub slice_bounds-parts-end : goal.slice_bounds-parts-end
 slice_bounds-parts-end c =
     let listed : lists c.args.t c.columns_written-columns.result.first ≡ true = let a = c.args in let r = c.columns_written-columns in first-listed a.s a.t r.result.first r.result.count r.ensures.written in
-    encoded-room c.args.t _ c.args.key.now listed c.requires.whole c.encode-written.ensures refl c.in-Length.is
+    encoded-room c.args.t _ c.args.key.now listed c.requires.whole c.encode.ensures refl c.in-Ok.is
 
 pub judge_columns-requires : goal.judge_columns-requires
 judge_columns-requires c =
     let listed : lists c.args.t c.columns_written-columns.result.first ≡ true = let a = c.args in let r = c.columns_written-columns in first-listed a.s a.t r.result.first r.result.count r.ensures.written in
-    let parts_are : let a = c.args in take (c.in-Length.n - 0) c.encode-written.new.out ≡ instance a.t c.columns_written-columns.result.first (index_of a.t a.key.now) = encoded-parts c.args.t _ c.args.key.now listed c.requires.whole c.encode-written.ensures refl c.in-Length.is in
+    let parts_are : let a = c.args in take (c.in-Ok.n - 0) c.encode.new.out ≡ instance a.t c.columns_written-columns.result.first (index_of a.t a.key.now) = encoded-parts c.args.t _ c.args.key.now listed c.requires.whole c.encode.ensures refl c.in-Ok.is in
     let a = c.args in
-    let r = c.columns_written-columns in record { view = c.requires.view; parts = encoded-few a.t _ a.key.now listed c.requires.whole c.encode-written.ensures refl c.in-Length.is; place = omega (arith, ap length parts_are, column-inside a.t r.result.first (index_of a.t a.key.now), c.base_len.ensures.parts); few = r.ensures.few }
+    let r = c.columns_written-columns in record { view = c.requires.view; parts = encoded-few a.t _ a.key.now listed c.requires.whole c.encode.ensures refl c.in-Ok.is; place = omega (arith, ap length parts_are, column-inside a.t r.result.first (index_of a.t a.key.now), c.base_len.ensures.parts); few = r.ensures.few }
 
 pub returns : goal.returns
 returns c =
     let listed : lists c.args.t c.columns_written-columns.result.first ≡ true = let a = c.args in let r = c.columns_written-columns in first-listed a.s a.t r.result.first r.result.count r.ensures.written in
-    let parts_are : let a = c.args in take (c.in-Length.n - 0) c.encode-written.new.out ≡ instance a.t c.columns_written-columns.result.first (index_of a.t a.key.now) = encoded-parts c.args.t _ c.args.key.now listed c.requires.whole c.encode-written.ensures refl c.in-Length.is in
+    let parts_are : let a = c.args in take (c.in-Ok.n - 0) c.encode.new.out ≡ instance a.t c.columns_written-columns.result.first (index_of a.t a.key.now) = encoded-parts c.args.t _ c.args.key.now listed c.requires.whole c.encode.ensures refl c.in-Ok.is in
     let a = c.args in
     let r = c.columns_written-columns in
     let rows = rows_of a.w.now a.v in

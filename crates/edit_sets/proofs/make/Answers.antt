@@ -17,4 +17,4 @@ edit_laid-requires c = record { sound = c.requires; laid = c.layout_of-l.ensures
 pub returns : goal.returns
 returns c =
     let wanted : Edit = edit_in c.args.x c.args.bytes.now in
-    makes-own c.args.s wanted c.bytes_of-own.ensures (sym c.has_shape.ensures ∙ c.if-not-has_shape.false) c.edit_laid.ensures
+    makes-own c.args.s wanted c.bytes_of.ensures (sym c.has_shape.ensures ∙ c.if-not-has_shape.false) c.edit_laid.ensures

@@ -1,5 +1,5 @@
 -- `edit_sets::make_all` meets its contract. The loop's invariant: the store is sound, and what makes the edits from place i on makes all of them from the
--- store as found. The measure is how many are left. Assumes nothing.
+-- store as found. Assumes nothing.
 use mathlib.Core.Path.{◌≡◌}
 use mathlib.Core.Bool.{true}
 use mathlib.Core.List.{List}
@@ -13,6 +13,3 @@ use Rattle.edit_sets.proofs.make_all.Given as goal
 abbrev pub invariant-loop-i : goal.invariant-loop-i
 invariant-loop-i l = (l.i ≤ l.count) × (length l.w ≡ length l.initial.w) × (is_sound l.w ≡ true)
     × ((after : List ℕ) → Makes (of_shape l.s (edits_from l.edits l.bytes l.i (l.count - l.i))) l.w after → Makes (of_shape l.s (edits_from l.edits l.bytes 0 l.count)) l.initial.w after)
-
-abbrev pub decreases-loop-i : goal.decreases-loop-i
-decreases-loop-i l = l.count - l.i

@@ -18,20 +18,20 @@ unfolding legal_request
 explain_rows-requires c =
     let request : Request = let a = c.args in asked a.security_model a.security_name.now a.security_level a.view_type a.context_name.now a.variable_name.now in
     let answered : let w = c.args.store.now in c.survey_call.result ≡ surveyed (call_fault w (legal_request (request))) (layout_of w) = let w = c.args.store.now in c.survey_call.ensures ∙ ap (λ b. surveyed (call_fault w b) (layout_of w)) c.in_range-legal.ensures in
-    let called : Called c.args.store.now (legal_request (request)) c.in-Laid.l = call-laid c.args.store.now (legal_request request) (sym c.in-Laid.is ∙ answered) in
+    let called : Called c.args.store.now (legal_request (request)) c.in-Ok.l = call-laid c.args.store.now (legal_request request) (sym c.in-Ok.is ∙ answered) in
     record { tables = (called).sound; parts = variable-few request (called).in_range; mapping = search rules; access = search rules; view = search rules }
 
-pub returns-in-Laid : goal.returns-in-Laid
+pub returns-in-Ok : goal.returns-in-Ok
 unfolding legal_request
-returns-in-Laid c =
+returns-in-Ok c =
     let request : Request = let a = c.args in asked a.security_model a.security_name.now a.security_level a.view_type a.context_name.now a.variable_name.now in
     let answered : let w = c.args.store.now in c.survey_call.result ≡ surveyed (call_fault w (legal_request (request))) (layout_of w) = let w = c.args.store.now in c.survey_call.ensures ∙ ap (λ b. surveyed (call_fault w b) (layout_of w)) c.in_range-legal.ensures in
-    let called : Called c.args.store.now (legal_request (request)) c.in-Laid.l = call-laid c.args.store.now (legal_request request) (sym c.in-Laid.is ∙ answered) in
+    let called : Called c.args.store.now (legal_request (request)) c.in-Ok.l = call-laid c.args.store.now (legal_request request) (sym c.in-Ok.is ∙ answered) in
     rw (explanation-laid c.args.store.now request called) c.explain_rows.ensures
 
-pub returns-in-Bad : goal.returns-in-Bad
+pub returns-in-Err : goal.returns-in-Err
 unfolding legal_request
-returns-in-Bad c =
+returns-in-Err c =
     let request : Request = let a = c.args in asked a.security_model a.security_name.now a.security_level a.view_type a.context_name.now a.variable_name.now in
     let answered : let w = c.args.store.now in c.survey_call.result ≡ surveyed (call_fault w (legal_request (request))) (layout_of w) = let w = c.args.store.now in c.survey_call.ensures ∙ ap (λ b. surveyed (call_fault w b) (layout_of w)) c.in_range-legal.ensures in
-    rw (explanation-refused c.args.store.now request (sym c.in-Bad.is ∙ answered)) (hands_none _ _)
+    rw (explanation-refused c.args.store.now request (sym c.in-Err.is ∙ answered)) (hands_none _ _)

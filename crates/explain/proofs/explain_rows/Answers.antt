@@ -2,7 +2,7 @@
 -- shown as it lies (`Shows`). Assumes nothing.
 use mathlib.Core.Path.{ap}
 use native.Mathlib.Omega.{arith}
-use Rattle.answers.specs.declared.Answer.TheVariants.{Decided}
+use Rattle.std.specs.Prelude.{Ok}
 use Rattle.answers.specs.Numbers.{answer_number}
 use Rattle.numbers.specs.BigEndian.{Octets}
 use Rattle.rows.specs.declared.Table.TheVariants.{Mapping, Access, View}
@@ -35,10 +35,10 @@ show-view_shown-requires c =
 pub returns : goal.returns
 unfolding explained
 returns c =
-    let octets : Octets c.args.w.now = λ i. omega (arith, c.shared_slice_known-1.given i) in
+    let octets : Octets c.args.w.now = λ i. omega (arith, c.type_inv.w i) in
     let v = c.args.variable_name.now in
     let k = c.authorize-authorized.ensures in
-    let decided = ap Decided (judged-decision k v c.judge-judged.ensures) in
+    let decided = ap Ok (judged-decision k v c.judge-judged.ensures) in
     let m = c.show-mapping_shown in
     let a = c.show-access_shown in
     let w = c.show-view_shown in

@@ -14,19 +14,19 @@ returns-in_default c =
     record { counts = shown-none a.w.now a.room.now e; lays = lent_none a.w.now a.room.now e }
 
 pub copy_in-requires : goal.copy_in-requires
-copy_in-requires c = omega (arith, found-short c.args.w.now c.args.room.now c.in-Row.is c.requires.room)
+copy_in-requires c = omega (arith, found-short c.args.w.now c.args.room.now c.in-Some.is c.requires.room)
 
 pub returns : goal.returns
 returns c =
     let a = c.args in
     record {
-      counts = shown-row a.w.now a.room.now c.in-Row.is c.requires.lies;
-      lays = lent_row a.w.now a.room.now c.in-Row.is
-          (c.copy_in.ensures ∙ laid-paste 0 (piece a.w.now c.in-Row.at c.in-Row.end) a.room.now);
+      counts = shown-row a.w.now a.room.now c.in-Some.is c.requires.lies;
+      lays = lent_row a.w.now a.room.now c.in-Some.is
+          (c.copy_in.ensures ∙ laid-paste 0 (piece a.w.now c.in-Some.at c.in-Some.end) a.room.now);
     }
 
 pub slice_bounds-copy_in-start : goal.slice_bounds-copy_in-start
-slice_bounds-copy_in-start c = (found-lies c.args.w.now c.args.room.now c.in-Row.is c.requires.lies).starts
+slice_bounds-copy_in-start c = (found-lies c.args.w.now c.args.room.now c.in-Some.is c.requires.lies).starts
 
 pub slice_bounds-copy_in-end : goal.slice_bounds-copy_in-end
-slice_bounds-copy_in-end c = (found-lies c.args.w.now c.args.room.now c.in-Row.is c.requires.lies).ends
+slice_bounds-copy_in-end c = (found-lies c.args.w.now c.args.room.now c.in-Some.is c.requires.lies).ends

@@ -5,16 +5,11 @@ use Prim.Native.Nat.{◌-◌}
 use native.Mathlib.Omega.{arith}
 use lib.ListN.{length}
 use Rattle.numbers.proofs.Orders.{same-ne}
-use Rattle.octets.proofs.Sames.{same_whole, same-but-four, four-differ}
+use Rattle.octets.proofs.Sames.{same-but-four, four-differ}
 use Rattle.octets.proofs.are_same.Goals as goal
 
 pub returns-then-n-b : goal.returns-then-n-b
 returns-then-n-b c = sym (same-ne _ _ (λ e. omega (arith, ap length e)))
-
-pub returns-then-n-lt4 : goal.returns-then-n-lt4
-returns-then-n-lt4 c =
-    let n = length c.args.a.now in
-    c.same_front.ensures ∙ same_whole _ _ n (omega arith) (omega arith)
 
 pub returns-then-not-same_four : goal.returns-then-not-same_four
 returns-then-not-same_four c =
@@ -26,5 +21,5 @@ returns c =
     let i = length c.args.a.now - 4 in
     let same-last = sym c.same_four.ensures ∙ c.if-not-same_four.false in
     c.same_front-2.ensures
-    ∙ same-but-four _ _ (λ i. omega (arith, c.shared_slice_known-1.given i)) (λ i. omega (arith, c.shared_slice_known-2-1.given i)) i
+    ∙ same-but-four _ _ (λ i. omega (arith, c.type_inv.a i)) (λ i. omega (arith, c.type_inv.b i)) i
     (omega arith) (omega arith) same-last

@@ -1,15 +1,11 @@
-use mathlib.Core.Path.{◌≡◌, refl, sym, ap, ◌∙◌}
+use mathlib.Core.Path.{◌≡◌, sym, ap, ◌∙◌}
 use mathlib.Core.List.{List}
 use Prim.Native.Nat.{ℕ}
 use native.Mathlib.Omega.{arith}
 use lib.ListN.{take, get_or}
 use lib.Seq.{get_or-take, take-take}
 use Rattle.numbers.proofs.Orders.{same-eq, same-ne}
-use Rattle.octets.proofs.Sames.{take_next}
 use Rattle.octets.proofs.same_front.Goals as goal
-
-pub skip-i-requires : goal.skip-i-requires
-skip-i-requires c = record { begun = omega arith; first = omega arith; second = omega arith; known = refl }
 
 pub returns-then-a-i : goal.returns-then-a-i
 returns-then-a-i c =
@@ -17,11 +13,6 @@ returns-then-a-i c =
     let n = c.args.n in
     let at : (v : List ℕ) → get_or (take n v) i 0 ≡ get_or v i 0 = λ v. get_or-take n v i 0 (omega arith) in
     sym (same-ne _ _ (λ e. c.if-a-i.true (sym (at _) ∙ ap (λ v. get_or v i 0) e ∙ at _)))
-
-pub loop-i-preserved : goal.loop-i-preserved
-loop-i-preserved c =
-    let l = c.loop-i in
-    take_next _ _ l.i (omega arith) (omega arith) l.invariant c.if-a-i.false
 
 pub returns : goal.returns
 returns c =

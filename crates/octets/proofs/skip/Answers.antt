@@ -7,6 +7,6 @@ pub loop-i-preserved : goal.loop-i-preserved
 loop-i-preserved c =
     let e = sym c.same_eight.ensures ∙ c.if-not-same_eight.false in (
       omega arith,
-      take-eight _ _ (λ i. omega (arith, c.shared_slice_known-1.given i)) (λ i. omega (arith, c.shared_slice_known-2-1.given i))
+      take-eight _ _ (λ i. omega (arith, c.type_inv.a i)) (λ i. omega (arith, c.type_inv.b i))
           c.loop-i.i (omega arith) (omega arith) c.loop-i.invariant.1 e,
     )

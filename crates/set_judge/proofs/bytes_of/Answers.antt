@@ -5,4 +5,4 @@ use Rattle.set_judge.proofs.bytes_of.Goals as goal
 pub returns : goal.returns
 returns c =
     let a = c.args in
-    clipped a.x.from a.x.end a.bytes.now c.least-end.ensures c.least-from.ensures
+    clipped a.x.from a.x.end a.bytes.now c.min-end.ensures c.min-from.ensures

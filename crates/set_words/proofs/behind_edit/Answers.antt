@@ -10,30 +10,30 @@ returns-in_default c = word-missing _ _ (sym c.word_at.ensures ∙ c.in_default.
 
 pub slice_bounds-are_same-count : goal.slice_bounds-are_same-count
 slice_bounds-are_same-count c =
-    let found : WordAt c.args.at c.args.line.now c.in-To.end = word-found _ _ (sym c.word_at.ensures ∙ c.in-To.is) in
+    let found : WordAt c.args.at c.args.line.now c.in-Some.end = word-found _ _ (sym c.word_at.ensures ∙ c.in-Some.is) in
     (found).forward
 
 pub slice_bounds-are_same-start : goal.slice_bounds-are_same-start
 slice_bounds-are_same-start c =
-    let found : WordAt c.args.at c.args.line.now c.in-To.end = word-found _ _ (sym c.word_at.ensures ∙ c.in-To.is) in
+    let found : WordAt c.args.at c.args.line.now c.in-Some.end = word-found _ _ (sym c.word_at.ensures ∙ c.in-Some.is) in
     (found).forward
 
 pub slice_bounds-are_same-end : goal.slice_bounds-are_same-end
 slice_bounds-are_same-end c =
-    let found : WordAt c.args.at c.args.line.now c.in-To.end = word-found _ _ (sym c.word_at.ensures ∙ c.in-To.is) in
+    let found : WordAt c.args.at c.args.line.now c.in-Some.end = word-found _ _ (sym c.word_at.ensures ∙ c.in-Some.is) in
     (found).inside
 
 pub overflow_add-result : goal.overflow_add-result
 overflow_add-result c =
-    let found : WordAt c.args.at c.args.line.now c.in-To.end = word-found _ _ (sym c.word_at.ensures ∙ c.in-To.is) in
+    let found : WordAt c.args.at c.args.line.now c.in-Some.end = word-found _ _ (sym c.word_at.ensures ∙ c.in-Some.is) in
     omega (arith, (found).inside)
 
 pub returns-then-are_same : goal.returns-then-are_same
 returns-then-are_same c =
-    let found : WordAt c.args.at c.args.line.now c.in-To.end = word-found _ _ (sym c.word_at.ensures ∙ c.in-To.is) in
+    let found : WordAt c.args.at c.args.line.now c.in-Some.end = word-found _ _ (sym c.word_at.ensures ∙ c.in-Some.is) in
     parted found (sym c.are_same.ensures ∙ c.if-are_same.true)
 
 pub returns : goal.returns
 returns c =
-    let found : WordAt c.args.at c.args.line.now c.in-To.end = word-found _ _ (sym c.word_at.ensures ∙ c.in-To.is) in
+    let found : WordAt c.args.at c.args.line.now c.in-Some.end = word-found _ _ (sym c.word_at.ensures ∙ c.in-Some.is) in
     over found (sym c.are_same.ensures ∙ c.if-are_same.false)

@@ -70,9 +70,9 @@ returns-in-Nothing c =
     let bytes_of : List ℕ = c.field.new.bytes in
     let parts-of : List ℕ = c.field.new.parts in
     let into : let l = c.loop-e in field_into Edit c.args.line.now (words_from l.next c.args.line.now) (buffers l.bytes l.parts) ≡ buffers (bytes_of) (parts-of) = field-into Edit c.loop-e.invariant.0.lent c.field.ensures.lays in
-    let found : Reads Edit c.in-At.e c.in-At.end c.loop-e.next c.args.line.now (bytes_of) (parts-of) = field-reads Edit c.loop-e.invariant.0.lent c.field.ensures.lays c.in-At.is c.field.ensures.finds c.field.auto.bytes c.field.auto.parts in
+    let found : Reads Edit c.in-Some.e c.in-Some.end c.loop-e.next c.args.line.now (bytes_of) (parts-of) = field-reads Edit c.loop-e.invariant.0.lent c.field.ensures.lays c.in-Some.is c.field.ensures.finds c.field.auto.bytes c.field.auto.parts in
     let stays : let l = c.loop-e in take (4 * l.next) (bytes_of) ≡ take (4 * l.next) l.bytes = edit-kept c.loop-e.invariant.0.lent c.field.ensures.lays in
-    let passed : let s = c.args in let ws = words_from s.at s.line.now in Passed (edits_said ws) (edits_into s.line.now ws (buffers s.bytes.now s.parts.now)) s.line.now c.with_edit-set.result (bytes_of) (parts-of) c.in-At.end = passed-as c.with_edit-set.ensures (way-edit c.loop-e.invariant.0 into found stays) in
+    let passed : let s = c.args in let ws = words_from s.at s.line.now in Passed (edits_said ws) (edits_into s.line.now ws (buffers s.bytes.now s.parts.now)) s.line.now c.with_edit-set.result (bytes_of) (parts-of) c.in-Some.end = passed-as c.with_edit-set.ensures (way-edit c.loop-e.invariant.0 into found stays) in
     let kept : let s = c.args in take (4 * s.at) (bytes_of) ≡ take (4 * s.at) s.bytes.now = let l = c.loop-e in let s = c.args in front-on (4 * s.at) (4 * l.next) l.bytes bytes_of (omega (arith, l.invariant.3)) stays ∙ l.invariant.4 in
     let p = passed in
     let e = behind-none _ _ c.in-Nothing.is c.behind_edit.ensures in
@@ -80,10 +80,10 @@ returns-in-Nothing c =
 
 pub loop-e-smaller : goal.loop-e-smaller
 loop-e-smaller c =
-    let next-at : Parted c.in-Edit.n c.in-At.end c.args.line.now = behind_more _ _ c.in-Edit.is c.behind_edit.ensures in
+    let next-at : Parted c.in-Edit.n c.in-Some.end c.args.line.now = behind_more _ _ c.in-Edit.is c.behind_edit.ensures in
     let bytes_of : List ℕ = c.field.new.bytes in
     let parts-of : List ℕ = c.field.new.parts in
-    let found : Reads Edit c.in-At.e c.in-At.end c.loop-e.next c.args.line.now (bytes_of) (parts-of) = field-reads Edit c.loop-e.invariant.0.lent c.field.ensures.lays c.in-At.is c.field.ensures.finds c.field.auto.bytes c.field.auto.parts in
+    let found : Reads Edit c.in-Some.e c.in-Some.end c.loop-e.next c.args.line.now (bytes_of) (parts-of) = field-reads Edit c.loop-e.invariant.0.lent c.field.ensures.lays c.in-Some.is c.field.ensures.finds c.field.auto.bytes c.field.auto.parts in
     omega (arith, (next-at).forward, (next-at).next_in, (found).forward)
 
 pub loop-e-preserved : goal.loop-e-preserved
@@ -91,10 +91,10 @@ loop-e-preserved c =
     let bytes_of : List ℕ = c.field.new.bytes in
     let parts-of : List ℕ = c.field.new.parts in
     let into : let l = c.loop-e in field_into Edit c.args.line.now (words_from l.next c.args.line.now) (buffers l.bytes l.parts) ≡ buffers (bytes_of) (parts-of) = field-into Edit c.loop-e.invariant.0.lent c.field.ensures.lays in
-    let found : Reads Edit c.in-At.e c.in-At.end c.loop-e.next c.args.line.now (bytes_of) (parts-of) = field-reads Edit c.loop-e.invariant.0.lent c.field.ensures.lays c.in-At.is c.field.ensures.finds c.field.auto.bytes c.field.auto.parts in
+    let found : Reads Edit c.in-Some.e c.in-Some.end c.loop-e.next c.args.line.now (bytes_of) (parts-of) = field-reads Edit c.loop-e.invariant.0.lent c.field.ensures.lays c.in-Some.is c.field.ensures.finds c.field.auto.bytes c.field.auto.parts in
     let stays : let l = c.loop-e in take (4 * l.next) (bytes_of) ≡ take (4 * l.next) l.bytes = edit-kept c.loop-e.invariant.0.lent c.field.ensures.lays in
-    let passed : let s = c.args in let ws = words_from s.at s.line.now in Passed (edits_said ws) (edits_into s.line.now ws (buffers s.bytes.now s.parts.now)) s.line.now c.with_edit-set.result (bytes_of) (parts-of) c.in-At.end = passed-as c.with_edit-set.ensures (way-edit c.loop-e.invariant.0 into found stays) in
-    let next-at : Parted c.in-Edit.n c.in-At.end c.args.line.now = behind_more _ _ c.in-Edit.is c.behind_edit.ensures in
+    let passed : let s = c.args in let ws = words_from s.at s.line.now in Passed (edits_said ws) (edits_into s.line.now ws (buffers s.bytes.now s.parts.now)) s.line.now c.with_edit-set.result (bytes_of) (parts-of) c.in-Some.end = passed-as c.with_edit-set.ensures (way-edit c.loop-e.invariant.0 into found stays) in
+    let next-at : Parted c.in-Edit.n c.in-Some.end c.args.line.now = behind_more _ _ c.in-Edit.is c.behind_edit.ensures in
     let bytes_same : length (bytes_of) ≡ length c.args.bytes.now = c.field.auto.bytes ∙ c.loop-e.invariant.1 in
     let parts_same : length (parts-of) ≡ length c.args.parts.now = c.field.auto.parts ∙ c.loop-e.invariant.2 in
     let kept : let s = c.args in take (4 * s.at) (bytes_of) ≡ take (4 * s.at) s.bytes.now = let l = c.loop-e in let s = c.args in front-on (4 * s.at) (4 * l.next) l.bytes bytes_of (omega (arith, l.invariant.3)) stays ∙ l.invariant.4 in (
@@ -122,9 +122,9 @@ returns-in-Malformed c =
     let bytes_of : List ℕ = c.field.new.bytes in
     let parts-of : List ℕ = c.field.new.parts in
     let into : let l = c.loop-e in field_into Edit c.args.line.now (words_from l.next c.args.line.now) (buffers l.bytes l.parts) ≡ buffers (bytes_of) (parts-of) = field-into Edit c.loop-e.invariant.0.lent c.field.ensures.lays in
-    let found : Reads Edit c.in-At.e c.in-At.end c.loop-e.next c.args.line.now (bytes_of) (parts-of) = field-reads Edit c.loop-e.invariant.0.lent c.field.ensures.lays c.in-At.is c.field.ensures.finds c.field.auto.bytes c.field.auto.parts in
+    let found : Reads Edit c.in-Some.e c.in-Some.end c.loop-e.next c.args.line.now (bytes_of) (parts-of) = field-reads Edit c.loop-e.invariant.0.lent c.field.ensures.lays c.in-Some.is c.field.ensures.finds c.field.auto.bytes c.field.auto.parts in
     let stays : let l = c.loop-e in take (4 * l.next) (bytes_of) ≡ take (4 * l.next) l.bytes = edit-kept c.loop-e.invariant.0.lent c.field.ensures.lays in
-    let passed : let s = c.args in let ws = words_from s.at s.line.now in Passed (edits_said ws) (edits_into s.line.now ws (buffers s.bytes.now s.parts.now)) s.line.now c.with_edit-set.result (bytes_of) (parts-of) c.in-At.end = passed-as c.with_edit-set.ensures (way-edit c.loop-e.invariant.0 into found stays) in
+    let passed : let s = c.args in let ws = words_from s.at s.line.now in Passed (edits_said ws) (edits_into s.line.now ws (buffers s.bytes.now s.parts.now)) s.line.now c.with_edit-set.result (bytes_of) (parts-of) c.in-Some.end = passed-as c.with_edit-set.ensures (way-edit c.loop-e.invariant.0 into found stays) in
     let kept : let s = c.args in take (4 * s.at) (bytes_of) ≡ take (4 * s.at) s.bytes.now = let l = c.loop-e in let s = c.args in front-on (4 * s.at) (4 * l.next) l.bytes bytes_of (omega (arith, l.invariant.3)) stays ∙ l.invariant.4 in
     let p = passed in
     let o = behind-over _ _ c.in-Malformed.is c.behind_edit.ensures in

@@ -6,7 +6,7 @@ use Prim.Native.Nat.{◌+◌, ◌-◌, ◌≤◌}
 use native.Mathlib.Omega.{arith}
 use lib.ListN.{length, set}
 use Rattle.numbers.specs.BigEndian.{octet, bytes_of}
-use Rattle.text_words.specs.Words.{hex_octets, Filling}
+use Rattle.text_words.specs.Words.{hex_octets, Filling, Unfilled}
 use Rattle.text_words.proofs.Words.{unsaid}
 use Rattle.text_fields.specs.FieldWords.{octet_most}
 use Rattle.text_fields.proofs.Buffers.{laid-front, bytes_of-octet}
@@ -16,29 +16,29 @@ use Rattle.text_fields.proofs.name.Goals as goal
 pub returns-then-word : goal.returns-then-word
 returns-then-word c = unsaid _ (name-long _ c.if-word.true)
 
-pub returns-in_default : goal.returns-in_default
-returns-in_default c =
-    let u = rw c.in_default.is at c.hex_octets.ensures in
-    record { is = counted_none octet u.is; kept = u.kept }
+pub returns-in_err-end : goal.returns-in_err-end
+returns-in_err-end c =
+    let u : Unfilled _ _ _ = c.in_err-end.ensures in
+    rw c.from_residual.ensures (record { is = counted_none octet u.is; kept = u.kept })
 
 pub overflow_sub-out : goal.overflow_sub-out
 overflow_sub-out c =
-    let octets : let s = c.args in Filling c.in-Upto.end (s.from + 1) (length s.word.now) s.out.now c.hex_octets.new.out (hex_octets s.word.now) = rw c.in-Upto.is at c.hex_octets.ensures in
+    let octets : let s = c.args in Filling c.in_ok-end.end (s.from + 1) (length s.word.now) s.out.now c.hex_octets.new.out (hex_octets s.word.now) = c.in_ok-end.ensures in
     omega (arith, (octets).ends)
 
 pub overflow_cast-out : goal.overflow_cast-out
 overflow_cast-out c =
-    let octets : let s = c.args in Filling c.in-Upto.end (s.from + 1) (length s.word.now) s.out.now c.hex_octets.new.out (hex_octets s.word.now) = rw c.in-Upto.is at c.hex_octets.ensures in
+    let octets : let s = c.args in Filling c.in_ok-end.end (s.from + 1) (length s.word.now) s.out.now c.hex_octets.new.out (hex_octets s.word.now) = c.in_ok-end.ensures in
     let few : length (octets).of ≤ octet_most = let f = octets in name-short c.args.word.now f.of f.is (omega (arith, f.ends, f.short)) c.if-word.false in
     omega (arith, (octets).ends, few)
 
 pub returns : goal.returns
 returns c =
-    let octets : let s = c.args in Filling c.in-Upto.end (s.from + 1) (length s.word.now) s.out.now c.hex_octets.new.out (hex_octets s.word.now) = rw c.in-Upto.is at c.hex_octets.ensures in
+    let octets : let s = c.args in Filling c.in_ok-end.end (s.from + 1) (length s.word.now) s.out.now c.hex_octets.new.out (hex_octets s.word.now) = c.in_ok-end.ensures in
     let few : length (octets).of ≤ octet_most = let f = octets in name-short c.args.word.now f.of f.is (omega (arith, f.ends, f.short)) c.if-word.false in
     let s = c.args in
     let f = octets in
-    let l : c.in-Upto.end - (s.from + 1) ≡ length f.of = omega (arith, f.ends) in
+    let l : c.in_ok-end.end - (s.from + 1) ≡ length f.of = omega (arith, f.ends) in
     record {
       of = length f.of ∷ bytes_of octet f.of;
       is = counted-some octet f.is few;

@@ -10,43 +10,46 @@ use Rattle.numbers.specs.BigEndian.{bytes_of, quad}
 use Rattle.numbers.specs.Laid.{laid}
 use Rattle.numbers.proofs.BigEndian.{length-bytes_of}
 use Rattle.numbers.proofs.Laid.{laid-part}
-use Rattle.text_words.specs.Words.{dotted}
+use Rattle.text_words.specs.Words.{dotted, Unfilled}
 use Rattle.text_words.proofs.Words.{unsaid}
 use Rattle.text_fields.proofs.Buffers.{laid-front, Whole, whole}
-use Rattle.text_fields.proofs.FieldWords.{counted_none, counted-over, counted-some}
+use Rattle.text_fields.proofs.FieldWords.{counted_none, counted-over, counted-some, ok-some, ok_none}
 use Rattle.text_fields.proofs.subtree.Goals as goal
 
-pub returns-in_default : goal.returns-in_default
-returns-in_default c = unsaid _ (counted_none quad (rw c.in_default.is at c.dotted.ensures).is)
+pub returns-in_err-n : goal.returns-in_err-n
+returns-in_err-n c = let u : Unfilled _ _ _ = c.in_err-n.ensures in rw c.from_residual.ensures (unsaid _ (counted_none quad u.is))
 
-pub returns-then-n-gt-OCTET_MOST : goal.returns-then-n-gt-OCTET_MOST
-returns-then-n-gt-OCTET_MOST c =
-    let read : let w = c.args.word.now in Whole c.in-Upto.n (length w) c.dotted.new.out (dotted w) = whole (rw c.in-Upto.is at c.dotted.ensures) in
-    let f = read in unsaid _ (counted-over quad f.is (omega (arith, f.size, c.if-n-gt-OCTET_MOST.true)))
+pub returns-in_err-count : goal.returns-in_err-count
+returns-in_err-count c =
+    let f : let w = c.args.word.now in Whole c.in_ok-n.n (length w) c.dotted.new.out (dotted w) = whole c.in_ok-n.ensures in
+    let over = ok_none _ _ c.try_from.ensures c.in_err-count.ensures.value in
+    rw c.from_residual-in_err-count.ensures (unsaid _ (counted-over quad f.is (omega (arith, f.size, over))))
 
 pub slice_bounds-put_quads-end : goal.slice_bounds-put_quads-end
 slice_bounds-put_quads-end c =
-    let read : let w = c.args.word.now in Whole c.in-Upto.n (length w) c.dotted.new.out (dotted w) = whole (rw c.in-Upto.is at c.dotted.ensures) in
+    let read : let w = c.args.word.now in Whole c.in_ok-n.n (length w) c.dotted.new.out (dotted w) = whole c.in_ok-n.ensures in
     omega (arith, (read).short, c.requires.room)
 
 pub returns : goal.returns
 returns c =
-    let read : let w = c.args.word.now in Whole c.in-Upto.n (length w) c.dotted.new.out (dotted w) = whole (rw c.in-Upto.is at c.dotted.ensures) in
+    let read : let w = c.args.word.now in Whole c.in_ok-n.n (length w) c.dotted.new.out (dotted w) = whole c.in_ok-n.ensures in
     let w = c.put_quads in
     let at = c.args.from in
     let out = c.args.out.now in
     let f = read in
-    let n = c.in-Upto.n in
+    let n = c.in_ok-n.n in
+    let fits = ok-some _ c.try_from.ensures c.in_ok-count.ensures.value in
     let x = take n c.dotted.new.out in
     let q : w.new.out ≡ bytes_of quad x = rw (sub-zero n) at w.ensures in
     let z : length w.new.out ≡ at + 1 + 4 * n - (at + 1) = ap length q ∙ length-bytes_of quad x ∙ omega (arith, f.size) in
     record {
       of = length x ∷ bytes_of quad x;
-      is = counted-some quad f.is (omega (arith, f.size, c.if-n-gt-OCTET_MOST.false));
+      is = counted-some quad f.is (omega (arith, f.size, fits.0));
       lays =
-          ap (λ u. set u at n) (laid-part (at + 1) (at + 1 + 4 * n - (at + 1)) w.new.out out z ∙ ap (λ u. laid (at + 1) u out) q)
+          rw fits.1
+          (ap (λ u. set u at n) (laid-part (at + 1) (at + 1 + 4 * n - (at + 1)) w.new.out out z ∙ ap (λ u. laid (at + 1) u out) q)
           ∙ ap (set (laid (at + 1) (bytes_of quad x) out) at) (sym f.size)
-          ∙ laid-front at (length x) (bytes_of quad x) out (omega (arith, c.requires.room));
+          ∙ laid-front at (length x) (bytes_of quad x) out (omega (arith, c.requires.room)));
       ends = omega (arith, length-bytes_of quad x, f.size);
       inside = omega (arith, f.short, c.requires.room);
       short = omega (arith, f.short);

@@ -20,55 +20,55 @@ use Rattle.text_rows.proofs.entry.Goals.{in-0, in-1, in-2, in-3}
 
 -- as many fields as the operation is handed
 
-pub returns-in_default : goal.returns-in_default
-returns-in_default c =
-    let e = word-missing _ _ (sym c.word_at.ensures ∙ c.in_default.is) in
+pub returns-in_err-word_end : goal.returns-in_err-word_end
+returns-in_err-word_end c =
+    let e = word-missing _ _ (sym c.word_at.ensures ∙ c.in_err-word_end.was) in
     let s = c.args in
-    record { enters = missing-none _ _ _ e; lays = unlaid s.from s.out.now (missing-front s.o s.at s.line.now e) }
+    rw c.from_residual.ensures (record { enters = missing-none _ _ _ e; lays = unlaid s.from s.out.now (missing-front s.o s.at s.line.now e) })
 
 pub slice_bounds-place_of-count : goal.slice_bounds-place_of-count
 slice_bounds-place_of-count c =
-    let found : WordAt c.args.at c.args.line.now c.in-To.end = word-found _ _ (sym c.word_at.ensures ∙ c.in-To.is) in
+    let found : WordAt c.args.at c.args.line.now c.in_ok-word_end.word_end = word-found _ _ (sym c.word_at.ensures ∙ c.in_ok-word_end.was) in
     (found).forward
 
 pub slice_bounds-place_of-start : goal.slice_bounds-place_of-start
 slice_bounds-place_of-start c =
-    let found : WordAt c.args.at c.args.line.now c.in-To.end = word-found _ _ (sym c.word_at.ensures ∙ c.in-To.is) in
+    let found : WordAt c.args.at c.args.line.now c.in_ok-word_end.word_end = word-found _ _ (sym c.word_at.ensures ∙ c.in_ok-word_end.was) in
     (found).forward
 
 pub slice_bounds-place_of-end : goal.slice_bounds-place_of-end
 slice_bounds-place_of-end c =
-    let found : WordAt c.args.at c.args.line.now c.in-To.end = word-found _ _ (sym c.word_at.ensures ∙ c.in-To.is) in
+    let found : WordAt c.args.at c.args.line.now c.in_ok-word_end.word_end = word-found _ _ (sym c.word_at.ensures ∙ c.in_ok-word_end.was) in
     (found).inside
 
-pub returns-in_default-place_of : goal.returns-in_default-place_of
+pub returns-in_default : goal.returns-in_default
 unfolding table_named split
-returns-in_default-place_of c =
-    let place_is : c.place_of.result ≡ place (between c.args.at c.in-To.end c.args.line.now) (words_of table_word tables) = c.place_of.ensures in
-    let found : WordAt c.args.at c.args.line.now c.in-To.end = word-found _ _ (sym c.word_at.ensures ∙ c.in-To.is) in
+returns-in_default c =
+    let place_is : c.place_of.result ≡ place (between c.args.at c.in_ok-word_end.word_end c.args.line.now) (words_of table_word tables) = c.place_of.ensures in
+    let found : WordAt c.args.at c.args.line.now c.in_ok-word_end.word_end = word-found _ _ (sym c.word_at.ensures ∙ c.in_ok-word_end.was) in
     let s = c.args in
     let e = named_none table_word _ tables c.place_of.result place_is (omega arith) in
     record { enters = other_none s.o found e; lays = unlaid s.from s.out.now (other-front s.o found e) }
 
-pub overflow_add-end : goal.overflow_add-end
-overflow_add-end c =
-    let found : WordAt c.args.at c.args.line.now c.in-To.end = word-found _ _ (sym c.word_at.ensures ∙ c.in-To.is) in
+pub overflow_add-word_end : goal.overflow_add-word_end
+overflow_add-word_end c =
+    let found : WordAt c.args.at c.args.line.now c.in_ok-word_end.word_end = word-found _ _ (sym c.word_at.ensures ∙ c.in_ok-word_end.was) in
     omega (arith, (found).inside)
 
 pub fields-requires : goal.fields-requires
 unfolding table_named split
 fields-requires c =
     let counts : Counts c.field_count-n.result (shape_of c.args.o) c.match-place_of.table = rw (← c.shape_of.ensures) c.field_count-n.ensures in
-    let found : WordAt c.args.at c.args.line.now c.in-To.end = word-found _ _ (sym c.word_at.ensures ∙ c.in-To.is) in
+    let found : WordAt c.args.at c.args.line.now c.in_ok-word_end.word_end = word-found _ _ (sym c.word_at.ensures ∙ c.in_ok-word_end.was) in
     record { fields = (counts).inside; room = fields-room c.args.o found c.requires }
 
-pub returns-in_default-fields : goal.returns-in_default-fields
+pub returns-in_err-end : goal.returns-in_err-end
 unfolding table_named split
-returns-in_default-fields c =
+returns-in_err-end c =
     let counts : Counts c.field_count-n.result (shape_of c.args.o) c.match-place_of.table = rw (← c.shape_of.ensures) c.field_count-n.ensures in
-    let found : WordAt c.args.at c.args.line.now c.in-To.end = word-found _ _ (sym c.word_at.ensures ∙ c.in-To.is) in
-    let place_is : c.place_of.result ≡ place (between c.args.at c.in-To.end c.args.line.now) (words_of table_word tables) = c.place_of.ensures in
-    let named : some c.match-place_of.table ≡ table_named (between c.args.at c.in-To.end c.args.line.now) =
+    let found : WordAt c.args.at c.args.line.now c.in_ok-word_end.word_end = word-found _ _ (sym c.word_at.ensures ∙ c.in_ok-word_end.was) in
+    let place_is : c.place_of.result ≡ place (between c.args.at c.in_ok-word_end.word_end c.args.line.now) (words_of table_word tables) = c.place_of.ensures in
+    let named : some c.match-place_of.table ≡ table_named (between c.args.at c.in_ok-word_end.word_end c.args.line.now) =
     let p = place_is in elim c.match-place_of.branch [
       | in-0 w ↦ rw w.table-is (named-at table_word _ tables 0 (sym w.in-0.is ∙ p))
       | in-1 w ↦ rw w.table-is (named-at table_word _ tables 1 (sym w.in-1.is ∙ p))
@@ -76,15 +76,15 @@ returns-in_default-fields c =
       | in-3 w ↦ rw w.table-is (named-at table_word _ tables 3 (sym w.in-3.is ∙ p))
     ] in
     let s = c.args in
-    let m = counts in record { enters = entry-bad s.o found named m (rw c.in_default-fields.is at c.fields.ensures.places); lays = entry-lays s.o found named m s.from s.out.now c.fields.ensures.lays }
+    let m = counts in rw c.from_residual-in_err-end.ensures record { enters = entry-bad s.o found named m c.in_err-end.ensures.places; lays = entry-lays s.o found named m s.from s.out.now c.fields.ensures.lays }
 
 pub returns : goal.returns
 unfolding table_named split
 returns c =
     let counts : Counts c.field_count-n.result (shape_of c.args.o) c.match-place_of.table = rw (← c.shape_of.ensures) c.field_count-n.ensures in
-    let found : WordAt c.args.at c.args.line.now c.in-To.end = word-found _ _ (sym c.word_at.ensures ∙ c.in-To.is) in
-    let place_is : c.place_of.result ≡ place (between c.args.at c.in-To.end c.args.line.now) (words_of table_word tables) = c.place_of.ensures in
-    let named : some c.match-place_of.table ≡ table_named (between c.args.at c.in-To.end c.args.line.now) =
+    let found : WordAt c.args.at c.args.line.now c.in_ok-word_end.word_end = word-found _ _ (sym c.word_at.ensures ∙ c.in_ok-word_end.was) in
+    let place_is : c.place_of.result ≡ place (between c.args.at c.in_ok-word_end.word_end c.args.line.now) (words_of table_word tables) = c.place_of.ensures in
+    let named : some c.match-place_of.table ≡ table_named (between c.args.at c.in_ok-word_end.word_end c.args.line.now) =
     let p = place_is in elim c.match-place_of.branch [
       | in-0 w ↦ rw w.table-is (named-at table_word _ tables 0 (sym w.in-0.is ∙ p))
       | in-1 w ↦ rw w.table-is (named-at table_word _ tables 1 (sym w.in-1.is ∙ p))
@@ -92,4 +92,4 @@ returns c =
       | in-3 w ↦ rw w.table-is (named-at table_word _ tables 3 (sym w.in-3.is ∙ p))
     ] in
     let s = c.args in
-    let m = counts in record { enters = entry-said s.o found named m (rw c.in-To-fields.is at c.fields.ensures.places); lays = entry-lays s.o found named m s.from s.out.now c.fields.ensures.lays }
+    let m = counts in record { enters = entry-said s.o found named m c.in_ok-end.ensures.places; lays = entry-lays s.o found named m s.from s.out.now c.fields.ensures.lays }

@@ -1,54 +1,34 @@
-use mathlib.Core.Path.{◌≡◌, refl, ap}
-use mathlib.Core.List.{◌∷◌}
-use Prim.Native.Nat.{◌+◌}
-use native.Mathlib.Omega.{arith}
-use lib.ListN.{length, drop, get_or, drop_of_length-le}
+use Rattle.std.proofs.Common.{ap, arith, length}
+use lib.ListN.{drop_of_length-le}
 use Rattle.text_values.proofs.Puts.{start, done}
-use Rattle.text_values.proofs.Parts.{dotted-none, first_next, first-room, rest-room, dotted-put, drop-next, dots-room, dots-step, dots-end}
+use Rattle.text_values.proofs.Parts.{dotted-none, first-room, rest-room, dotted-put, drop-next, dots-room, dots-step, dots-end}
 use Rattle.text_values.proofs.put_dotted.Goals as goal
 
--- there is a first
-
--- in a turn the one at i is the next
-
 pub put_octet-requires : goal.put_octet-requires
-put_octet-requires c = omega (arith, ap length (dotted-none c.args.parts.now c.if-parts-eq0.true), c.requires)
+put_octet-requires c = omega (arith, ap length (dotted-none c.args.parts.now c.in_default.ensures.cases), c.requires)
 
-pub returns-then-parts-eq0 : goal.returns-then-parts-eq0
-returns-then-parts-eq0 c = rw (dotted-none c.args.parts.now c.if-parts-eq0.true) c.put_octet.ensures
-
-pub overflow_cast-parts : goal.overflow_cast-parts
-overflow_cast-parts c = omega (arith, c.shared_slice_known-2-1.given 0)
+pub returns-in_default : goal.returns-in_default
+returns-in_default c = rw (dotted-none c.args.parts.now c.in_default.ensures.cases) c.put_octet.ensures
 
 pub put_decimal-o-requires : goal.put_decimal-o-requires
-put_decimal-o-requires c =
-    let first : let v = c.args.parts.now in v ≡ get_or v 0 0 ∷ drop 1 v = first_next c.args.parts.now c.if-parts-eq0.false in
-    first-room c.args.at c.args.out.now first c.requires refl
+put_decimal-o-requires c = first-room c.args.at c.args.out.now c.in-Some.ensures.cases.0 c.requires c.from.ensures
 
-pub loop-i-init : goal.loop-i-init
-loop-i-init c =
-    let first : let v = c.args.parts.now in v ≡ get_or v 0 0 ∷ drop 1 v = first_next c.args.parts.now c.if-parts-eq0.false in
-    (start (rest-room c.args.at c.args.out.now first c.requires refl c.put_decimal-o.ensures), omega arith)
+pub loop-part-init : goal.loop-part-init
+loop-part-init c = start (rest-room c.args.at c.args.out.now c.in-Some.ensures.cases.0 c.requires c.from.ensures c.put_decimal-o.ensures)
 
-pub overflow_cast-parts-in-loop-i : goal.overflow_cast-parts-in-loop-i
-overflow_cast-parts-in-loop-i c = omega (arith, c.shared_slice_known-in-loop-i-1.given c.loop-i.i)
+-- in a turn the part at the index is the next
 
 pub put_number-o-requires : goal.put_number-o-requires
 put_number-o-requires c =
-    let next : let v = c.args.parts.now in drop c.loop-i.i v ≡ get_or v c.loop-i.i 0 ∷ drop (c.loop-i.i + 1) v = drop-next c.args.parts.now c.loop-i.i c.loop-i-test.true in
-    dots-room next c.loop-i.invariant.0 refl
+    dots-room (drop-next c.in-Some.rest.now c.loop-part.part-index c.loop-part-test.true) c.loop-part.invariant c.from-in-loop-part.ensures
 
-pub loop-i-preserved : goal.loop-i-preserved
-loop-i-preserved c =
-    let next : let v = c.args.parts.now in drop c.loop-i.i v ≡ get_or v c.loop-i.i 0 ∷ drop (c.loop-i.i + 1) v = drop-next c.args.parts.now c.loop-i.i c.loop-i-test.true in
-    (dots-step next c.loop-i.invariant.0 refl c.put_number-o.ensures, omega arith)
-
-pub shape_of-out : goal.shape_of-out
-shape_of-out c = omega (arith, c.loop-i.invariant.0.kept)
+pub loop-part-preserved : goal.loop-part-preserved
+loop-part-preserved c =
+    dots-step (drop-next c.in-Some.rest.now c.loop-part.part-index c.loop-part-test.true) c.loop-part.invariant c.from-in-loop-part.ensures
+    c.put_number-o.ensures
 
 pub returns : goal.returns
 returns c =
-    let first : let v = c.args.parts.now in v ≡ get_or v 0 0 ∷ drop 1 v = first_next c.args.parts.now c.if-parts-eq0.false in
-    let l = c.loop-i in
-    let e = drop_of_length-le c.args.parts.now c.loop-i-test.false in
-    dotted-put c.args.at c.args.out.now first c.requires refl c.put_decimal-o.ensures (done (rw (dots-end _ e) at l.invariant.0))
+    let e = drop_of_length-le c.in-Some.rest.now c.loop-part-test.false in
+    dotted-put c.args.at c.args.out.now c.in-Some.ensures.cases.0 c.requires c.from.ensures c.put_decimal-o.ensures
+    (done (rw (dots-end _ e) at c.loop-part.invariant))

@@ -6,13 +6,13 @@ use native.Mathlib.Omega.{arith}
 use Rattle.text_values.proofs.put_name.Goals as goal
 
 pub put_octet-requires : goal.put_octet-requires
-put_octet-requires c = omega (arith, ap length (name-none c.args.name.now c.if-name-eq0.true), c.requires)
+put_octet-requires c = omega (arith, ap length (name-none c.args.name.now (grind arith)), c.requires)
 
-pub returns-then-name-eq0 : goal.returns-then-name-eq0
-returns-then-name-eq0 c = rw (name-none c.args.name.now c.if-name-eq0.true) c.put_octet.ensures
+pub returns-then-is_empty : goal.returns-then-is_empty
+returns-then-is_empty c = rw (name-none c.args.name.now (grind arith)) c.put_octet.ensures
 
 pub put_hex-requires : goal.put_hex-requires
-put_hex-requires c = rw (name-some c.args.name.now c.if-name-eq0.false) at c.requires
+put_hex-requires c = rw (name-some c.args.name.now (grind arith)) at c.requires
 
 pub returns : goal.returns
-returns c = rw (name-some c.args.name.now c.if-name-eq0.false) c.put_hex.ensures
+returns c = rw (name-some c.args.name.now (grind arith)) c.put_hex.ensures

@@ -1,30 +1,14 @@
-use mathlib.Core.Path.{◌≡◌, sym, ap, ◌∙◌}
-use Prim.Native.Nat.{◌<◌}
-use native.Mathlib.Omega.{arith}
-use lib.ListN.{length}
-use Rattle.text_words.specs.Words.{is_said}
-use Rattle.text_words.proofs.Words.{number_is, number-bad, said-also, dots-last, dots-next, dots-bad}
+-- `text_words::are_numbers` meets its contract: the parts that the library cuts at the dots are those of `split`, and each is tested. Assumes nothing.
+use Rattle.std.proofs.Common.{◌∙◌, refl, rules, tests}
+use Rattle.std.proofs.lemmas.Iterator.Search.{all_from_yields_List}
+use Rattle.text_words.specs.Words.{is_said, decimal, split}
+use Rattle.text_words.proofs.Parts.{YieldsList-from_parts, numbers-said, read_said}
 use Rattle.text_words.proofs.are_numbers.Goals as goal
 
-pub returns-in_default : goal.returns-in_default
-returns-in_default c =
-    let l = c.loop-at in
-    let e = number-bad c.in_default.is c.decimal.ensures in
-    sym (l.invariant.1 ∙ ap is_said (dots-bad _ l.at _ c.end_of-end.ensures.ends c.end_of-end.ensures.inside e))
-
-pub returns-then-at-word : goal.returns-then-at-word
-returns-then-at-word c =
-    let l = c.loop-at in
-    let e = number_is _ c.in-Of.is c.decimal.ensures in
-    let h : c.end_of-end.result ≡ length c.args.word.now = omega (arith, c.end_of-end.ensures.inside, c.if-at-word.true) in
-    sym (l.invariant.1 ∙ ap is_said (dots-last _ l.at _ c.end_of-end.ensures.ends h) ∙ said-also _ e)
-
-pub loop-at-smaller : goal.loop-at-smaller
-loop-at-smaller c = omega (arith, c.end_of-end.ensures.ends, c.end_of-end.ensures.inside, c.if-at-word.false)
-
-pub loop-at-preserved : goal.loop-at-preserved
-loop-at-preserved c =
-    let l = c.loop-at in
-    let e = number_is _ c.in-Of.is c.decimal.ensures in
-    let h : c.end_of-end.result < length c.args.word.now = omega (arith, c.end_of-end.ensures.inside, c.if-at-word.false) in
-    (omega arith, l.invariant.1 ∙ ap is_said (dots-next _ l.at _ c.end_of-end.ensures.ends h) ∙ said-also _ e)
+pub returns : goal.returns
+returns c =
+    let w = c.args.word.now in
+    all_from_yields_List (λ p. is_said (decimal p)) _ _ _ c.all.ensures.ran
+    (YieldsList-from_parts _ 46 w refl c.split.ensures.rest c.split.ensures.done c.split.ensures.closure (λ x b q k. search (rules, tests)))
+    (λ x b q k. search (rules, tests, read_said))
+    ∙ numbers-said (split 46 w)

@@ -1,23 +1,14 @@
-use mathlib.Core.Path.{sym, ap, ◌∙◌}
-use native.Mathlib.Omega.{arith}
-use Rattle.text_words.specs.Words.{is_said}
-use Rattle.text_words.proofs.Words.{number_is, number-bad, said-also, also-none, pairs-odd, pairs_next, pairs_end}
+-- `text_words::are_pairs` meets its contract: the library's chunks are the pairs, and each is tested. Assumes nothing.
+use Rattle.std.proofs.Common.{◌∙◌, rules, tests}
+use Rattle.std.proofs.lemmas.Iterator.Search.{all_from_yields_List}
+use Rattle.text_words.specs.Words.{is_said, hex_octet}
+use Rattle.text_words.proofs.Parts.{YieldsList-from_pairs, octets-said, read_said}
 use Rattle.text_words.proofs.are_pairs.Goals as goal
 
-pub returns-then-j-word : goal.returns-then-j-word
-returns-then-j-word c = let l = c.loop-i in sym (l.invariant.1 ∙ ap is_said (pairs-odd _ l.i c.if-j-word.true))
-
-pub returns-in_default : goal.returns-in_default
-returns-in_default c =
-    let l = c.loop-i in
-    let e = number-bad c.in_default.is c.hex_pair.ensures in
-    sym (l.invariant.1 ∙ ap is_said (pairs_next _ l.i (omega arith) ∙ also-none _ e))
-
-pub loop-i-preserved : goal.loop-i-preserved
-loop-i-preserved c =
-    let l = c.loop-i in
-    let e = number_is _ c.in-Of.is c.hex_pair.ensures in
-    (omega arith, l.invariant.1 ∙ ap is_said (pairs_next _ l.i (omega arith)) ∙ said-also _ e)
-
 pub returns : goal.returns
-returns c = let l = c.loop-i in sym (l.invariant.1 ∙ ap is_said (pairs_end _ l.i c.loop-i-test.false))
+returns c =
+    let w = c.args.word.now in
+    all_from_yields_List (λ p. is_said (hex_octet p)) _ _ _ c.all.ensures.ran
+    (YieldsList-from_pairs w c.chunks.ensures.rest c.chunks.ensures.size)
+    (λ x b q k. search (rules, tests, read_said))
+    ∙ octets-said w

@@ -1,35 +1,33 @@
-use mathlib.Core.Path.{sym}
-use native.Mathlib.Omega.{arith}
-use Rattle.text_words.proofs.Words.{decimal-empty, reading-start, reading-end, reading-low, reading-high, reading-large, reading-next}
+use Rattle.std.proofs.Common.{sym, arith}
+use Rattle.text_words.proofs.Words.{decimal-empty, reading-end, reading-bad, reading-large, reading-next}
 use Rattle.text_words.proofs.decimal.Goals as goal
 
-pub returns-then-word-eq0 : goal.returns-then-word-eq0
-returns-then-word-eq0 c = sym (decimal-empty _ c.if-word-eq0.true)
+pub returns-then-is_empty : goal.returns-then-is_empty
+returns-then-is_empty c = sym (decimal-empty _ (grind arith))
 
-pub loop-i-init : goal.loop-i-init
-loop-i-init c = reading-start _ (omega arith)
+pub returns-in_err-digit : goal.returns-in_err-digit
+returns-in_err-digit c =
+    rw c.from_residual.ensures (sym (reading-bad c.loop-c.invariant c.loop-c-test.true _ c.from.ensures c.in_err-digit.ensures.value))
 
-pub returns-then-c-lt48 : goal.returns-then-c-lt48
-returns-then-c-lt48 c = sym (reading-low c.loop-i.invariant c.loop-i-test.true _ c.wide-c.ensures.equal c.if-c-lt48.true)
+pub returns-in_err-checked_mul : goal.returns-in_err-checked_mul
+returns-in_err-checked_mul c =
+    rw c.from_residual-in_err-checked_mul.ensures
+    (sym (reading-large c.loop-c.invariant c.loop-c-test.true _ c.from.ensures c.in_ok-digit.ensures.value.0 (omega (arith, c.in_err-checked_mul.ensures))))
 
-pub returns-then-c-gt57 : goal.returns-then-c-gt57
-returns-then-c-gt57 c = sym (reading-high c.loop-i.invariant c.loop-i-test.true _ c.wide-c.ensures.equal c.if-c-gt57.true)
+pub returns-in_err-n : goal.returns-in_err-n
+returns-in_err-n c =
+    rw c.from_residual-in_err-n.ensures
+    (sym
+    (reading-large c.loop-c.invariant c.loop-c-test.true _ c.from.ensures
+    c.in_ok-digit.ensures.value.0
+    (omega (arith, c.in_ok-digit.ensures.value, c.in_ok-checked_mul.ensures, c.in_err-n.ensures))))
 
-pub overflow_add-n : goal.overflow_add-n
-overflow_add-n c = omega (arith, c.wide-c.ensures.bounded)
-
-pub returns-then-n-gt4294967295 : goal.returns-then-n-gt4294967295
-returns-then-n-gt4294967295 c =
-    sym
-    (reading-large c.loop-i.invariant c.loop-i-test.true _ c.wide-c.ensures.equal
-    c.if-c-lt48.false c.if-c-gt57.false
-    (omega arith))
-
-pub loop-i-preserved : goal.loop-i-preserved
-loop-i-preserved c =
-    reading-next c.loop-i.invariant c.loop-i-test.true _ c.wide-c.ensures.equal
-    c.if-c-lt48.false c.if-c-gt57.false
-    (omega arith)
+pub loop-c-preserved : goal.loop-c-preserved
+loop-c-preserved c =
+    let d = c.in_ok-digit.ensures.value in
+    reading-next c.loop-c.invariant c.loop-c-test.true _ c.from.ensures d.0
+    (omega (arith, d.1, c.in_ok-checked_mul.ensures, c.in_ok-n.ensures))
+    (omega (arith, c.in_ok-n.ensures))
 
 pub returns : goal.returns
-returns c = sym (reading-end c.loop-i.invariant c.loop-i-test.false)
+returns c = sym (reading-end c.loop-c.invariant c.loop-c-test.false)

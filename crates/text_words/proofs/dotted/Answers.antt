@@ -1,13 +1,10 @@
-use mathlib.Core.Bool.{true}
-use mathlib.Core.List.{[]}
-use mathlib.Core.Option.{some}
-use mathlib.Core.Path.{◌≡◌, refl, sym, ◌∙◌}
-use Prim.Native.Nat.{◌<◌}
-use native.Mathlib.Omega.{arith}
-use lib.ListN.{length, length-set}
-use Rattle.text_words.specs.Words.{between, is_said, split, decimal, decimals, dotted}
-use Rattle.text_words.proofs.Words.{reads-start, reads-next, reads_none, reads_end, unsaid, empty-said, said-none, said-not}
-use Rattle.text_words.proofs.Words.{dotted-dash, dotted-some, dots-last, dots-next, dots-bad, part-some, number_is, number-bad}
+use Rattle.std.proofs.Common.{◌<◌, length, refl, sym, ◌∙◌, arith, rules, tests}
+use lib.ListN.{length-set}
+use Rattle.std.proofs.lemmas.Iterator.Consumers.{YieldsList-turn, YieldsList-end}
+use Rattle.std.proofs.lemmas.List.{length_push}
+use Rattle.text_words.specs.Words.{split}
+use Rattle.text_words.proofs.Words.{reads-start, reads-bad, reads-next, reads_end, unsaid, empty-said, said-none, said-not, dotted-dash, dotted-some}
+use Rattle.text_words.proofs.Parts.{YieldsList-from_parts, numbers-next, numbers-end, numbers-fit}
 use Rattle.text_words.proofs.dotted.Goals as goal
 
 pub returns-then-are_same : goal.returns-then-are_same
@@ -15,65 +12,40 @@ returns-then-are_same c = empty-said _ _ _ (dotted-dash _ (sym c.are_same.ensure
 
 pub returns-then-not-are_numbers : goal.returns-then-not-are_numbers
 returns-then-not-are_numbers c =
-    let named : let w = c.args.word.now in dotted w ≡ decimals (split 46 w) = dotted-some _ (sym c.are_same.ensures ∙ c.if-are_same.false) in
-    unsaid _ (named ∙ said-none _ (sym c.are_numbers.ensures ∙ c.if-not-are_numbers.true))
+    unsaid _ (dotted-some _ (sym c.are_same.ensures ∙ c.if-are_same.false) ∙ said-none _ (sym c.are_numbers.ensures ∙ c.if-not-are_numbers.true))
 
-pub loop-x-init : goal.loop-x-init
-loop-x-init c = (omega arith, omega arith, refl, reads-start _ _ _ (omega arith))
+pub loop-part-init : goal.loop-part-init
+loop-part-init c = (omega arith, refl, reads-start _ _ _ (omega (arith, c.requires)))
 
-pub shape_of-out-in_default : goal.shape_of-out-in_default
-shape_of-out-in_default c = c.loop-x.invariant.2
-
-pub returns-in_default : goal.returns-in_default
-returns-in_default c =
-    let judged : is_said (decimals (split 46 c.args.word.now)) ≡ true = sym c.are_numbers.ensures ∙ c.if-not-are_numbers.false in
-    said-not judged
-    (reads_none c.loop-x.invariant.3
-    (dots-bad _ c.loop-x.at _ c.end_of-end.ensures.ends c.end_of-end.ensures.inside
-    (number-bad c.in_default.is c.decimal.ensures)))
-
-pub offset_bounds-out-n : goal.offset_bounds-out-n
-offset_bounds-out-n c =
-    let part : decimal (between c.loop-x.at c.end_of-end.result c.args.word.now) ≡ some c.in-Of.x = number_is _ c.in-Of.is c.decimal.ensures in
-    let room : c.loop-x.n < length c.args.out.now = let h = part-some _ c.loop-x.at c.end_of-end.result _ part in omega (arith, c.requires, c.end_of-end.ensures.inside) in
-    omega (arith, room, c.well_formed)
+pub returns-in_err-out : goal.returns-in_err-out
+returns-in_err-out c =
+    let w = c.args.word.now in
+    let ps = split 46 w in
+    let t = YieldsList-turn (YieldsList-from_parts _ 46 w c.into_iter-part-iterator.ensures.into_iter_gives c.split-part-items.ensures.rest c.split-part-items.ensures.done c.split-part-items.ensures.closure (λ x b q k. search (rules, tests))) c.loop-part.yielded _ c.loop-part.yielded_by _ _ c.in-Some.part c.in-Some.is c.next.ensures.steps in
+    said-not (sym c.are_numbers.ensures ∙ c.if-not-are_numbers.false)
+    (reads-bad c.loop-part.invariant.2 _ _ (numbers-next ps _ t) (sym c.in_err-out.ensures))
 
 pub bounds-out-n : goal.bounds-out-n
 bounds-out-n c =
-    let part : decimal (between c.loop-x.at c.end_of-end.result c.args.word.now) ≡ some c.in-Of.x = number_is _ c.in-Of.is c.decimal.ensures in
-    let room : c.loop-x.n < length c.args.out.now = let h = part-some _ c.loop-x.at c.end_of-end.result _ part in omega (arith, c.requires, c.end_of-end.ensures.inside) in
-    omega (arith, room, c.loop-x.invariant.2)
+    let w = c.args.word.now in
+    let t = YieldsList-turn (YieldsList-from_parts _ 46 w c.into_iter-part-iterator.ensures.into_iter_gives c.split-part-items.ensures.rest c.split-part-items.ensures.done c.split-part-items.ensures.closure (λ x b q k. search (rules, tests))) c.loop-part.yielded _ c.loop-part.yielded_by _ _ c.in-Some.part c.in-Some.is c.next.ensures.steps in
+    omega (arith, t.0, numbers-fit w (sym c.are_numbers.ensures ∙ c.if-not-are_numbers.false), c.requires)
 
-pub overflow_add-n : goal.overflow_add-n
-overflow_add-n c =
-    let part : decimal (between c.loop-x.at c.end_of-end.result c.args.word.now) ≡ some c.in-Of.x = number_is _ c.in-Of.is c.decimal.ensures in
-    let room : c.loop-x.n < length c.args.out.now = let h = part-some _ c.loop-x.at c.end_of-end.result _ part in omega (arith, c.requires, c.end_of-end.ensures.inside) in
-    omega (arith, room)
+pub loop-part-preserved : goal.loop-part-preserved
+loop-part-preserved c =
+    let w = c.args.word.now in
+    let l = c.loop-part in
+    let ps = split 46 w in
+    let t = YieldsList-turn (YieldsList-from_parts _ 46 w c.into_iter-part-iterator.ensures.into_iter_gives c.split-part-items.ensures.rest c.split-part-items.ensures.done c.split-part-items.ensures.closure (λ x b q k. search (rules, tests))) c.loop-part.yielded _ c.loop-part.yielded_by _ _ c.in-Some.part c.in-Some.is c.next.ensures.steps in
+    let m = length_push l.yielded c.in-Some.part in
+    let h : l.n < length c.args.out.now = omega (arith, t.0, numbers-fit w (sym c.are_numbers.ensures ∙ c.if-not-are_numbers.false), c.requires) in
+    (omega (arith, m), length-set l.out l.n _ ∙ l.invariant.1, rw m (reads-next l.invariant.2 _ _ (numbers-next ps _ t) (sym c.in_ok-out.ensures) h))
 
-pub overflow_add-at : goal.overflow_add-at
-overflow_add-at c = omega (arith, c.end_of-end.ensures.inside, c.well_formed)
-
-pub shape_of-out-then-word-at : goal.shape_of-out-then-word-at
-shape_of-out-then-word-at c = let l = c.loop-x in length-set l.out l.n _ ∙ l.invariant.2
-
-pub returns-then-word-at : goal.returns-then-word-at
-returns-then-word-at c =
-    let part : decimal (between c.loop-x.at c.end_of-end.result c.args.word.now) ≡ some c.in-Of.x = number_is _ c.in-Of.is c.decimal.ensures in
-    let room : c.loop-x.n < length c.args.out.now = let h = part-some _ c.loop-x.at c.end_of-end.result _ part in omega (arith, c.requires, c.end_of-end.ensures.inside) in
-    let named : let w = c.args.word.now in dotted w ≡ decimals (split 46 w) = dotted-some _ (sym c.are_same.ensures ∙ c.if-are_same.false) in
-    let e : c.end_of-end.result ≡ length c.args.word.now = omega (arith, c.end_of-end.ensures.inside, c.if-word-at.true) in
-    let g = part-some _ c.loop-x.at c.end_of-end.result _ part in
-    let r = reads-next c.loop-x.invariant.3 _ (some []) (dots-last _ c.loop-x.at _ c.end_of-end.ensures.ends e) part room in
-    rw named (reads_end r refl (omega arith))
-
-pub loop-x-preserved : goal.loop-x-preserved
-loop-x-preserved c =
-    let part : decimal (between c.loop-x.at c.end_of-end.result c.args.word.now) ≡ some c.in-Of.x = number_is _ c.in-Of.is c.decimal.ensures in
-    let room : c.loop-x.n < length c.args.out.now = let h = part-some _ c.loop-x.at c.end_of-end.result _ part in omega (arith, c.requires, c.end_of-end.ensures.inside) in
-    let h : c.end_of-end.result < length c.args.word.now = omega (arith, c.end_of-end.ensures.inside, c.if-word-at.false) in
-    let g = part-some _ c.loop-x.at c.end_of-end.result _ part in (
-      omega arith,
-      omega arith,
-      length-set c.loop-x.out c.loop-x.n _ ∙ c.loop-x.invariant.2,
-      reads-next c.loop-x.invariant.3 _ _ (dots-next _ c.loop-x.at _ c.end_of-end.ensures.ends h) part room,
-    )
+pub returns : goal.returns
+returns c =
+    let w = c.args.word.now in
+    let l = c.loop-part in
+    let t = YieldsList-end (YieldsList-from_parts _ 46 w c.into_iter-part-iterator.ensures.into_iter_gives c.split-part-items.ensures.rest c.split-part-items.ensures.done c.split-part-items.ensures.closure (λ x b q k. search (rules, tests))) c.loop-part.yielded _ c.loop-part.yielded_by _ _ c.in-None.is c.next.ensures.steps in
+    rw (dotted-some w (sym c.are_same.ensures ∙ c.if-are_same.false))
+    (reads_end l.invariant.2 (numbers-end (split 46 w) _ (omega (arith, t.1)))
+    (omega (arith, t.1, numbers-fit w (sym c.are_numbers.ensures ∙ c.if-not-are_numbers.false))))

@@ -1,31 +1,23 @@
--- `text_words::hex_digit` meets its contract: each test is one of the definition's. Assumes nothing.
-use mathlib.Core.Path.{sym}
-use native.Mathlib.Omega.{arith}
-use Rattle.rows.proofs.Sound.{within-least}
-use Rattle.text_words.specs.Words.{hex_digit}
+-- `text_words::hex_digit` meets its contract: below 16, the library's value of a digit or a letter is the definition's. Assumes nothing.
+use Rattle.std.proofs.Common.{◌≡◌, ℕ, ◌<◌, Some, None, arith, tests}
+use Rattle.std.specs.Char.{digit_value}
+use Rattle.std.specs.Option.{SomeIff}
+use mathlib.Core.Option.{none, some}
+use Rattle.text_words.specs.Types.{Number}
+use Rattle.text_words.specs.Words.{hex_digit, number_of}
 use Rattle.text_words.proofs.hex_digit.Goals as goal
 
-pub overflow_sub-result : goal.overflow_sub-result
-overflow_sub-result c = within-least 48 57 _ c.if-c.true
-
-pub returns-then-c : goal.returns-then-c
+said : (c : ℕ) → digit_value c < 16 → some (digit_value c) ≡ hex_digit c
 unfolding hex_digit
-returns-then-c c = sym (rw c.if-c.true)
+said c h = grind (arith, tests)
 
-pub overflow_sub-result-then-c-2 : goal.overflow_sub-result-then-c-2
-overflow_sub-result-then-c-2 c = omega (arith, within-least 97 102 c.args.c c.if-c-2.true)
-
-pub returns-then-c-2 : goal.returns-then-c-2
+unsaid : (c : ℕ) → (digit_value c < 16 → ⊥) → none ≡ hex_digit c
 unfolding hex_digit
-returns-then-c-2 c = sym (rw (c.if-c.false, c.if-c-2.true))
+unsaid c h = grind (arith, tests)
 
-pub overflow_sub-result-then-c-3 : goal.overflow_sub-result-then-c-3
-overflow_sub-result-then-c-3 c = omega (arith, within-least 65 70 c.args.c c.if-c-3.true)
-
-pub returns-then-c-3 : goal.returns-then-c-3
-unfolding hex_digit
-returns-then-c-3 c = sym (rw (c.if-c.false, c.if-c-2.false, c.if-c-3.true))
+digit : (r : Number) (c : ℕ) → SomeIff r (digit_value c < 16) (digit_value c) → number_of r ≡ hex_digit c
+digit None c h = unsaid c h
+digit (Some x) c h = rw h.1 (said c h.0)
 
 pub returns : goal.returns
-unfolding hex_digit
-returns c = sym (rw (c.if-c.false, c.if-c-2.false, c.if-c-3.false))
+returns c = digit c.to_digit.result c.args.c (rw c.from.ensures at c.to_digit.ensures.value)

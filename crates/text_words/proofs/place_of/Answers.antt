@@ -1,52 +1,20 @@
-use mathlib.Core.Path.{sym, ◌∙◌}
-use native.Mathlib.Omega.{arith}
-use borrow.Author.Rules.{rules}
-use Rattle.text_words.proofs.WordsFrom.{WordAt, word-from, passed_start, passed-end, passed_here, passed-next}
+-- `text_words::place_of` meets its contract: of the words that the library cuts at the spaces, it counts those in front of the first that is the
+-- same. Assumes nothing.
+use Rattle.std.proofs.Common.{not, ◌∙◌, rules, tests}
+use Rattle.std.proofs.lemmas.Iterator.Consumers.{count_from_yields_List}
+use Rattle.std.proofs.lemmas.Iterator.Search.{YieldsList-from_take_while}
+use Rattle.std.proofs.lemmas.List.Folds.{length-prefix_len}
+use Rattle.numbers.specs.Order.{same}
+use Rattle.text_words.specs.Words.{words}
+use Rattle.text_words.proofs.Parts.{YieldsList-from_parts, place-passed}
 use Rattle.text_words.proofs.place_of.Goals as goal
 
-pub loop-at-init : goal.loop-at-init
-loop-at-init c = (omega arith, omega arith, passed_start _ _)
-
-pub slice_bounds-are_same-count : goal.slice_bounds-are_same-count
-slice_bounds-are_same-count c =
-    let here : WordAt c.loop-at.at c.args.list.now c.end_of-end.result = word-from _ _ _ c.loop-at-test.true c.end_of-end.ensures in
-    omega (arith, (here).forward)
-
-pub slice_bounds-are_same-start : goal.slice_bounds-are_same-start
-slice_bounds-are_same-start c =
-    let here : WordAt c.loop-at.at c.args.list.now c.end_of-end.result = word-from _ _ _ c.loop-at-test.true c.end_of-end.ensures in
-    (here).forward
-
-pub slice_bounds-are_same-end : goal.slice_bounds-are_same-end
-slice_bounds-are_same-end c =
-    let here : WordAt c.loop-at.at c.args.list.now c.end_of-end.result = word-from _ _ _ c.loop-at-test.true c.end_of-end.ensures in
-    (here).inside
-
-pub returns-then-are_same : goal.returns-then-are_same
-returns-then-are_same c =
-    let here : WordAt c.loop-at.at c.args.list.now c.end_of-end.result = word-from _ _ _ c.loop-at-test.true c.end_of-end.ensures in
-    passed_here c.loop-at.invariant.2 here (sym c.are_same.ensures ∙ c.if-are_same.true)
-
-pub overflow_add-n : goal.overflow_add-n
-overflow_add-n c = search rules
-
-pub overflow_add-at : goal.overflow_add-at
-overflow_add-at c = search rules
-
-pub loop-at-smaller : goal.loop-at-smaller
-loop-at-smaller c =
-    let here : WordAt c.loop-at.at c.args.list.now c.end_of-end.result = word-from _ _ _ c.loop-at-test.true c.end_of-end.ensures in
-    omega (arith, (here).forward)
-
-pub loop-at-preserved : goal.loop-at-preserved
-loop-at-preserved c =
-    let here : WordAt c.loop-at.at c.args.list.now c.end_of-end.result = word-from _ _ _ c.loop-at-test.true c.end_of-end.ensures in
-    let h = here in
-    let l = c.loop-at in (
-      omega (arith, h.inside),
-      omega (arith, h.forward, l.invariant.1),
-      passed-next l.invariant.2 h (sym c.are_same.ensures ∙ c.if-are_same.false),
-    )
-
 pub returns : goal.returns
-returns c = passed-end c.loop-at.invariant.2 c.loop-at-test.false
+returns c =
+    let w = c.args.word.now in
+    let vs = words c.args.list.now in
+    count_from_yields_List c.take_while.result c.count.result c.count.ensures.ran
+    (YieldsList-from_take_while _ (λ v. not (same v w))
+    (YieldsList-from_parts _ 32 c.args.list.now c.take_while.ensures.source c.split.ensures.rest c.split.ensures.done c.split.ensures.closure (λ x b q k. search (rules, tests)))
+    c.take_while.ensures.closure c.take_while.ensures.done (λ x b q k. search (rules, tests)))
+    ∙ length-prefix_len (λ v. not (same v w)) vs ∙ place-passed w vs

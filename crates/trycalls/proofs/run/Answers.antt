@@ -13,18 +13,18 @@ use Rattle.trycalls.proofs.Sizes.{done_none, faulty-some}
 use Rattle.trycalls.proofs.Known.{tells-plays, tells-refusal}
 use Rattle.trycalls.proofs.run.Goals as goal
 
-pub returns-in-Done : goal.returns-in-Done
-returns-in-Done g c =
+pub returns-in-Ok : goal.returns-in-Ok
+returns-in-Ok g c =
     let s = c.serve.ensures in
     let f = c.load-file in
     let w = take (f.result.len - 0) f.result.octets in
     let r = c.read_image.ensures in
-    let q = done_none (image_fault w) (sym c.in-Done.is ∙ r.answer_is) in
+    let q = done_none (image_fault w) (sym c.in-Ok.is ∙ r.answer_is) in
     let z : f.result.len - 0 ≡ f.result.len = omega arith in
     let file : TablesFile (octets_of g.F.Read.remaining c.args.tables) w = rw z f.ensures.file in
     let to = outside (g.R.Read.remaining c.serve.new.input) (g.W.Write.contents c.serve.new.output) in
     let written : c.serve.result.writable ≡ true → Written (image_fault w) w s.input s.text =
-    λ o. rw q (record { store = _; after = _; holds = r.rows_are c.in-Done.is; played = s.played o }) in
+    λ o. rw q (record { store = _; after = _; holds = r.rows_are c.in-Ok.is; played = s.played o }) in
     record {
       tables = w;
       input = s.input;
@@ -38,12 +38,12 @@ returns-in-Done g c =
       closed = s.closed;
     }
 
-pub returns-in-Faulty : goal.returns-in-Faulty
-returns-in-Faulty g c =
+pub returns-in-Err : goal.returns-in-Err
+returns-in-Err g c =
     let w = c.write.ensures in
     let f = c.load-file in
     let i = take (f.result.len - 0) f.result.octets in
-    let q = faulty-some (image_fault i) (sym c.in-Faulty.is ∙ c.read_image.ensures.answer_is) in
+    let q = faulty-some (image_fault i) (sym c.in-Err.is ∙ c.read_image.ensures.answer_is) in
     let z : f.result.len - 0 ≡ f.result.len = omega arith in
     let file : TablesFile (octets_of g.F.Read.remaining c.args.tables) i = rw z f.ensures.file in
     let from = outside (g.R.Read.remaining c.args.input.now) (g.W.Write.contents c.args.output.now) in

@@ -13,14 +13,14 @@ use Rattle.tryreq.proofs.Known.{tells-answers, tells-refusal}
 use Rattle.tryreq.proofs.run.Goals as goal
 
 pub serve-requires : goal.serve-requires
-serve-requires g c = image-laid _ (sym c.in-Laid.is ∙ c.survey_image.ensures)
+serve-requires g c = image-laid _ (sym c.in-Ok.is ∙ c.survey_image.ensures)
 
-pub returns-in-Laid : goal.returns-in-Laid
-returns-in-Laid g c =
+pub returns-in-Ok : goal.returns-in-Ok
+returns-in-Ok g c =
     let s = c.serve.ensures in
     let f = c.load-file in
     let w = take (f.result.len - 0) f.result.octets in
-    let q = sym c.in-Laid.is ∙ c.survey_image.ensures in
+    let q = sym c.in-Ok.is ∙ c.survey_image.ensures in
     let z : f.result.len - 0 ≡ f.result.len = omega arith in
     let file : TablesFile (octets_of g.F.Read.remaining c.args.tables) w = rw z f.ensures.file in
     let from = outside (g.R.Read.remaining c.args.input.now) (g.W.Write.contents c.args.output.now) in
@@ -38,12 +38,12 @@ returns-in-Laid g c =
       closed = s.closed;
     }
 
-pub returns-in-Bad : goal.returns-in-Bad
-returns-in-Bad g c =
+pub returns-in-Err : goal.returns-in-Err
+returns-in-Err g c =
     let w = c.write.ensures in
     let f = c.load-file in
     let v = take (f.result.len - 0) f.result.octets in
-    let q = sym c.in-Bad.is ∙ c.survey_image.ensures in
+    let q = sym c.in-Err.is ∙ c.survey_image.ensures in
     let z : f.result.len - 0 ≡ f.result.len = omega arith in
     let file : TablesFile (octets_of g.F.Read.remaining c.args.tables) v = rw z f.ensures.file in
     let from = outside (g.R.Read.remaining c.args.input.now) (g.W.Write.contents c.args.output.now) in

@@ -4,10 +4,10 @@ use Rattle.walk.proofs.Reached.{hands-nothing}
 use Rattle.walk.proofs.hand_back.Goals as goal
 
 pub hand_row-requires : goal.hand_row-requires
-hand_row-requires c = record { row = rw c.in-Row.is at c.requires.met; parts = c.requires.parts; room = c.requires.room }
+hand_row-requires c = record { row = rw c.in-Some.is at c.requires.met; parts = c.requires.parts; room = c.requires.room }
 
-pub returns-in-Row : goal.returns-in-Row
-returns-in-Row c = rw c.in-Row.is c.hand_row.ensures
+pub returns-in-Some : goal.returns-in-Some
+returns-in-Some c = rw c.in-Some.is c.hand_row.ensures
 
-pub returns-in-Nothing : goal.returns-in-Nothing
-returns-in-Nothing c = rw c.in-Nothing.is (hands-nothing EndOfMibView _ _ tt)
+pub returns-in-None : goal.returns-in-None
+returns-in-None c = rw c.in-None.is (hands-nothing EndOfMibView _ _ tt)

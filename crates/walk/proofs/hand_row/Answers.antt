@@ -51,20 +51,20 @@ copy_in-requires c =
       c.requires.room,
     )
 
-pub returns-in-Length : goal.returns-in-Length
-returns-in-Length c =
+pub returns-in-Ok : goal.returns-in-Ok
+returns-in-Ok c =
     let octets : Octets c.args.w.now = λ i. omega (arith, c.shared_slice_known-1.given i) in
     let to : ℕ = c.args.at + c.key_end-n.result in
     let a = c.args in
     hands-row a.w.now octets a.t a.column a.at a.end c.requires.row c.key_end-n.result c.key_end-n.ensures to refl
-    c.encode.ensures c.requires.parts c.in-Length.is
+    c.encode.ensures c.requires.parts c.in-Ok.is
     (c.copy_in.ensures ∙ laid-paste 0 (take (to - a.at) (drop a.at a.w.now)) a.key.now)
 
-pub returns-in-Unwritten : goal.returns-in-Unwritten
-returns-in-Unwritten c =
+pub returns-in-Err : goal.returns-in-Err
+returns-in-Err c =
     let octets : Octets c.args.w.now = λ i. omega (arith, c.shared_slice_known-1.given i) in
     let to : ℕ = c.args.at + c.key_end-n.result in
     let a = c.args in
     absurd (encoded-always a.t a.column _ c.requires.row.listed
     (slice-legal a.w.now octets a.t a.column a.at a.end c.requires.row c.key_end-n.result c.key_end-n.ensures to refl)
-    c.encode.ensures c.requires.parts c.in-Unwritten.is)
+    c.encode.ensures c.requires.parts c.in-Err.is)

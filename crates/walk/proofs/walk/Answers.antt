@@ -20,27 +20,27 @@ walk_tables-requires c =
     let caller : Caller = let a = c.args in caller_of a.security_model a.security_name.now a.security_level in
     let legal : Bool = legal_walk caller c.args.identifier.now in
     let answered : let w = c.args.store.now in c.survey_call.result ≡ surveyed (call_fault w (legal)) (layout_of w) = let w = c.args.store.now in c.survey_call.ensures ∙ ap (λ b. surveyed (call_fault w b) (layout_of w)) (ap₂ ◌&&◌ c.is_caller-caller.ensures c.is_short.ensures) in
-    let called : Called c.args.store.now (legal) c.in-Laid.l = call-laid c.args.store.now legal (sym c.in-Laid.is ∙ answered) in
+    let called : Called c.args.store.now (legal) c.in-Ok.l = call-laid c.args.store.now legal (sym c.in-Ok.is ∙ answered) in
     record { tables = (called).sound; legal = (called).in_range; parts = search rules; room = search rules }
 
-pub returns-in-Laid : goal.returns-in-Laid
+pub returns-in-Ok : goal.returns-in-Ok
 unfolding legal_walk
-returns-in-Laid c =
+returns-in-Ok c =
     let caller : Caller = let a = c.args in caller_of a.security_model a.security_name.now a.security_level in
     let legal : Bool = legal_walk caller c.args.identifier.now in
     let answered : let w = c.args.store.now in c.survey_call.result ≡ surveyed (call_fault w (legal)) (layout_of w) = let w = c.args.store.now in c.survey_call.ensures ∙ ap (λ b. surveyed (call_fault w b) (layout_of w)) (ap₂ ◌&&◌ c.is_caller-caller.ensures c.is_short.ensures) in
-    let called : Called c.args.store.now (legal) c.in-Laid.l = call-laid c.args.store.now legal (sym c.in-Laid.is ∙ answered) in
+    let called : Called c.args.store.now (legal) c.in-Ok.l = call-laid c.args.store.now legal (sym c.in-Ok.is ∙ answered) in
     let r = hands-walks c.args.store.now caller c.args.identifier.now
     (walk-laid c.args.store.now caller c.args.identifier.now called) c.walk_tables.ensures in
     record { walks = r.0; legal = r.1 }
 
-pub returns-in-Bad : goal.returns-in-Bad
+pub returns-in-Err : goal.returns-in-Err
 unfolding legal_walk
-returns-in-Bad c =
+returns-in-Err c =
     let caller : Caller = let a = c.args in caller_of a.security_model a.security_name.now a.security_level in
     let legal : Bool = legal_walk caller c.args.identifier.now in
     let answered : let w = c.args.store.now in c.survey_call.result ≡ surveyed (call_fault w (legal)) (layout_of w) = let w = c.args.store.now in c.survey_call.ensures ∙ ap (λ b. surveyed (call_fault w b) (layout_of w)) (ap₂ ◌&&◌ c.is_caller-caller.ensures c.is_short.ensures) in
     let r = hands-walks c.args.store.now caller c.args.identifier.now
-    (walk_refused c.args.store.now caller c.args.identifier.now (sym c.in-Bad.is ∙ answered))
+    (walk_refused c.args.store.now caller c.args.identifier.now (sym c.in-Err.is ∙ answered))
     (hands-nothing (Walked.Faulty _) _ _ tt) in
     record { walks = r.0; legal = r.1 }

@@ -7,19 +7,19 @@ use Rattle.walk.proofs.Walks.{walk-denied, walk-viewed}
 use Rattle.walk.proofs.walk_tables.Goals as goal
 
 pub in_tables-met-requires : goal.in_tables-met-requires
-in_tables-met-requires c = record { tables = c.requires.tables; view = viewed-in c.authorize-authorized.ensures c.in-Viewed.is }
+in_tables-met-requires c = record { tables = c.requires.tables; view = viewed-in c.authorize-authorized.ensures c.in-Ok.is }
 
 pub hand_back-requires : goal.hand_back-requires
 hand_back-requires c = record { met = c.in_tables-met.ensures.row; parts = c.requires.parts; room = c.requires.room }
 
-pub returns-in-Denied : goal.returns-in-Denied
-returns-in-Denied c =
-    rw (walk-denied c.authorize-authorized.ensures c.args.identifier.now c.requires.legal c.in-Denied.is)
+pub returns-in-Err : goal.returns-in-Err
+returns-in-Err c =
+    rw (walk-denied c.authorize-authorized.ensures c.args.identifier.now c.requires.legal c.in-Err.is)
     (hands-nothing (Walked.Denied _) _ _ tt)
 
-pub returns-in-Viewed : goal.returns-in-Viewed
-returns-in-Viewed c =
+pub returns-in-Ok : goal.returns-in-Ok
+returns-in-Ok c =
     rw (
-      walk-viewed c.authorize-authorized.ensures c.args.identifier.now c.requires.legal c.in-Viewed.is c.requires.tables,
+      walk-viewed c.authorize-authorized.ensures c.args.identifier.now c.requires.legal c.in-Ok.is c.requires.tables,
       ← c.in_tables-met.ensures.is,
     ) c.hand_back.ensures

@@ -4,7 +4,7 @@ use Rattle.walk_alike.proofs.Alikes.{alike_next}
 use Rattle.walk_alike.proofs.same_octets.Goals as goal
 
 pub loop-i-init : goal.loop-i-init
-loop-i-init c = (omega (arith, c.least-n.ensures), (omega (arith, c.least-n.ensures), c.skip_octets-i.ensures.same))
+loop-i-init c = (omega (arith, c.min-n.ensures), (omega (arith, c.min-n.ensures), c.skip_octets-i.ensures.same))
 
 pub overflow_cast-parts : goal.overflow_cast-parts
 overflow_cast-parts c = omega (arith, c.shared_slice_known-in-loop-i-1.given c.loop-i.i)

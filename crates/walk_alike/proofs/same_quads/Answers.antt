@@ -9,7 +9,7 @@ use Rattle.walk_alike.proofs.Alikes.{alike-none, alike_next}
 use Rattle.walk_alike.proofs.same_quads.Goals as goal
 
 pub loop-i-init : goal.loop-i-init
-loop-i-init c = (omega (arith, c.least-n.ensures), (omega (arith, c.least-n.ensures), alike-none _ _))
+loop-i-init c = (omega (arith, c.min-n.ensures), (omega (arith, c.min-n.ensures), alike-none _ _))
 
 pub overflow_cast-parts : goal.overflow_cast-parts
 overflow_cast-parts c = omega (arith, c.shared_slice_known-in-loop-i-1.given c.loop-i.i)

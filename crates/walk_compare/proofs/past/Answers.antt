@@ -4,7 +4,7 @@ use mathlib.Core.List.{List, []}
 use Prim.Native.Nat.{ℕ, ◌≤◌, ◌<◌}
 use native.Mathlib.Omega.{arith}
 use lib.ListN.{length, drop, get_or, drop_of_length-le}
-use Rattle.walk_compare.specs.declared.Onward.TheVariants.{From}
+use Rattle.std.specs.Prelude.{Some}
 use Rattle.walk_compare.specs.Onward.{onward, GoesOn}
 use Rattle.walk_compare.proofs.Comparing.{onward-short, onward-less, onward-more, onward-same, onward-end}
 use Rattle.walk_compare.proofs.past.Goals as goal
@@ -14,12 +14,12 @@ loop-i-init c = (refl, (omega arith, refl))
 
 -- the identifier goes on from place k
 
-goes : (o p : List ℕ) (k : ℕ) → k ≤ length o → onward o p ≡ some (drop k o) → GoesOn o p (From k)
+goes : (o p : List ℕ) (k : ℕ) → k ≤ length o → onward o p ≡ some (drop k o) → GoesOn o p (Some k)
 goes o p k h e = record { place = h; is = sym e }
 
 -- where nothing of it is left
 
-goes_end : (o p : List ℕ) (k : ℕ) → k ≡ length o → onward o p ≡ some [] → GoesOn o p (From k)
+goes_end : (o p : List ℕ) (k : ℕ) → k ≡ length o → onward o p ≡ some [] → GoesOn o p (Some k)
 goes_end o p k h e =
     let l : length o ≤ k = omega arith in
     goes o p k (omega arith) (e ∙ ap some (sym (drop_of_length-le o l)))

@@ -33,4 +33,4 @@ returns c =
     chosen-as c.first_row.ensures
     (ap (find (readable_row a.t a.column view)) c.rows_above-above.ensures.are
     ∙ column-left a.t a.column view a.parts.now (map (row_of a.t) (rows_in a.w.now a.x))
-    (left-slice c.past-onward.ensures c.in-From.is))
+    (left-slice c.past-onward.ensures c.in-Some.is))

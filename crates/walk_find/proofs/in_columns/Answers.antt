@@ -45,15 +45,15 @@ in_column-found-requires c =
 
 -- the first of the table is the first in this column and those behind it
 
-pub returns-in-Row : goal.returns-in-Row
-returns-in-Row c =
+pub returns-in-Some : goal.returns-in-Some
+returns-in-Some c =
     let column : ℕ = c.loop-left.column in
     let behind : List ℕ = let l = c.loop-left in counted (l.column + 1) (l.left - 1) in
     let next : let l = c.loop-left in counted l.column l.left ≡ column ∷ behind = let l = c.loop-left in counted_next l.column l.left (omega (arith, c.loop-left-test.true)) in
     let left_is : let a = c.args in onward a.identifier.now (base a.t) ≡ some (take (length a.identifier.now - a.k) (drop a.k a.identifier.now)) = let a = c.args in let s = c.requires.left in s.is ∙ sym (ap some (take_all (length a.identifier.now - a.k) (drop a.k a.identifier.now) (omega (arith, length-drop a.k a.identifier.now)))) in
     let first-is : let a = c.args in find (stops (rows_of a.w.now a.v) a.identifier.now) (of_columns a.t (map (row_of a.t) (rows_in a.w.now a.x)) (column ∷ behind)) ≡ first_in a.t (rows_of a.w.now a.v) a.identifier.now a.w.now a.x = rw next at c.loop-left.invariant.1.1.1 in
     let a = c.args in
-    let r = row-at c.in_column-found.ensures c.in-Row.is in
+    let r = row-at c.in_column-found.ensures c.in-Some.is in
     record {
       row = record {
         lies = r.lies;

@@ -27,5 +27,5 @@ returns-in_default c =
 pub in_columns-requires : goal.in_columns-requires
 in_columns-requires c =
     let based : GoesOn c.args.identifier.now (base c.args.t) c.past-onward.result = let n = c.base_len-n in let f = c.base_of-front in rw (sub-zero n.result, base-taken c.args.t n.result f.result n.ensures.parts f.ensures) at c.past-onward.ensures in
-    let e = c.in-From.is in
+    let e = c.in-Some.is in
     record { rows = c.requires.rows; view = c.requires.view; left = record { place = left-place based e; is = sym (left_is based e) } }

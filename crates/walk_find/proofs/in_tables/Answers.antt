@@ -29,7 +29,7 @@ returns-in_default-mapping c =
     let of : Table → List Instance = λ t. of_table (tables_at c.args.w.now c.args.l) t in
     let accesses : List Instance = of Access ++ of View in
     let mappings : List Instance = of Mapping ++ accesses in
-    met-behind here (of Context) mappings c.in-Nothing.is c.in_table-context.ensures
+    met-behind here (of Context) mappings c.in-None.is c.in_table-context.ensures
     (met-front here (of Mapping) accesses c.in_default-mapping.is c.in_table-mapping.ensures)
 
 pub returns-in_default-access : goal.returns-in_default-access
@@ -39,8 +39,8 @@ returns-in_default-access c =
     let of : Table → List Instance = λ t. of_table (tables_at c.args.w.now c.args.l) t in
     let accesses : List Instance = of Access ++ of View in
     let mappings : List Instance = of Mapping ++ accesses in
-    met-behind here (of Context) mappings c.in-Nothing.is c.in_table-context.ensures
-    (met-behind here (of Mapping) accesses c.in-Nothing-mapping.is c.in_table-mapping.ensures
+    met-behind here (of Context) mappings c.in-None.is c.in_table-context.ensures
+    (met-behind here (of Mapping) accesses c.in-None-mapping.is c.in_table-mapping.ensures
     (met-front here (of Access) (of View) c.in_default-access.is c.in_table-access.ensures))
 
 pub returns : goal.returns
@@ -50,6 +50,6 @@ returns c =
     let of : Table → List Instance = λ t. of_table (tables_at c.args.w.now c.args.l) t in
     let accesses : List Instance = of Access ++ of View in
     let mappings : List Instance = of Mapping ++ accesses in
-    met-behind here (of Context) mappings c.in-Nothing.is c.in_table-context.ensures
-    (met-behind here (of Mapping) accesses c.in-Nothing-mapping.is c.in_table-mapping.ensures
-    (met-behind here (of Access) (of View) c.in-Nothing-access.is c.in_table-access.ensures c.in_table.ensures))
+    met-behind here (of Context) mappings c.in-None.is c.in_table-context.ensures
+    (met-behind here (of Mapping) accesses c.in-None-mapping.is c.in_table-mapping.ensures
+    (met-behind here (of Access) (of View) c.in-None-access.is c.in_table-access.ensures c.in_table.ensures))

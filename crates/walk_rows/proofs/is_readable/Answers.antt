@@ -2,6 +2,8 @@
 -- Assumes nothing.
 use mathlib.Core.Path.{◌≡◌, refl, sym, ap, ◌∙◌}
 use Rattle.instance_encode.proofs.Encoded.{encoded-always, encoded-room, encoded-few, encoded-parts}
+use Rattle.std.specs.Prelude.{Ok, Err, is_ok}
+use Rattle.answers.specs.Types.{Decision}
 use Rattle.rows.specs.Rows.{index_of}
 use Rattle.decision_steps.specs.Decision.{step5}
 use Rattle.decision_parts.specs.Parts.{rows_of}
@@ -14,21 +16,19 @@ pub returns-in_default : goal.returns-in_default
 returns-in_default c = absurd (encoded-always c.args.t _ c.args.key.now c.requires.listed c.requires.whole c.encode-written.ensures refl c.in_default.is)
 
 pub slice_bounds-decide_variable_in-end : goal.slice_bounds-decide_variable_in-end
-slice_bounds-decide_variable_in-end c = encoded-room c.args.t _ c.args.key.now c.requires.listed c.requires.whole c.encode-written.ensures refl c.in-Length.is
+slice_bounds-decide_variable_in-end c = encoded-room c.args.t _ c.args.key.now c.requires.listed c.requires.whole c.encode-written.ensures refl c.in-Ok.is
 
 pub decide_variable_in-requires : goal.decide_variable_in-requires
-decide_variable_in-requires c = record { view = c.requires.view; parts = encoded-few c.args.t _ c.args.key.now c.requires.listed c.requires.whole c.encode-written.ensures refl c.in-Length.is }
+decide_variable_in-requires c = record { view = c.requires.view; parts = encoded-few c.args.t _ c.args.key.now c.requires.listed c.requires.whole c.encode-written.ensures refl c.in-Ok.is }
 
 -- what is decided is the instance
 
-pub returns-in-Allowed : goal.returns-in-Allowed
-unfolding readable
-returns-in-Allowed c =
-    let decided : let s = c.args in is_allowed c.decide_variable_in.result ≡ readable (rows_of s.w.now s.v) (instance s.t s.column (index_of s.t s.key.now)) = ap is_allowed (c.decide_variable_in.ensures ∙ ap (λ v. step5 v (rows_of c.args.w.now c.args.v)) (encoded-parts c.args.t _ c.args.key.now c.requires.listed c.requires.whole c.encode-written.ensures refl c.in-Length.is)) in
-    ap is_allowed (sym c.in-Allowed.is) ∙ decided
+ok-allowed : (d : Decision) → is_ok d ≡ is_allowed d
+ok-allowed (Ok tt) = refl
+ok-allowed (Err cause) = refl
 
-pub returns-in-Refused : goal.returns-in-Refused
+pub returns : goal.returns
 unfolding readable
-returns-in-Refused c =
-    let decided : let s = c.args in is_allowed c.decide_variable_in.result ≡ readable (rows_of s.w.now s.v) (instance s.t s.column (index_of s.t s.key.now)) = ap is_allowed (c.decide_variable_in.ensures ∙ ap (λ v. step5 v (rows_of c.args.w.now c.args.v)) (encoded-parts c.args.t _ c.args.key.now c.requires.listed c.requires.whole c.encode-written.ensures refl c.in-Length.is)) in
-    ap is_allowed (sym c.in-Refused.is) ∙ decided
+returns c =
+    let decided : let s = c.args in is_allowed c.decide_variable_in.result ≡ readable (rows_of s.w.now s.v) (instance s.t s.column (index_of s.t s.key.now)) = ap is_allowed (c.decide_variable_in.ensures ∙ ap (λ v. step5 v (rows_of c.args.w.now c.args.v)) (encoded-parts c.args.t _ c.args.key.now c.requires.listed c.requires.whole c.encode-written.ensures refl c.in-Ok.is)) in
+    c.is_ok.ensures.value ∙ ok-allowed c.decide_variable_in.result ∙ decided

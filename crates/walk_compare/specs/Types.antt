@@ -1,0 +1,5 @@
+-- The answers of the code, as the definitions name them. Assumes nothing.
+use Rattle.std.specs.Prelude.{ℕ, Option}
+
+abbrev pub Onward : Type 0
+Onward = Option ℕ
