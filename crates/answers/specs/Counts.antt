@@ -4,6 +4,7 @@ use Rattle.std.specs.Prelude.{Ok, Err}
 use Rattle.answers.specs.Numbers.{result_number}
 use Rattle.answers.specs.declared.Fault.TheVariants.{OutOfRange}
 use Rattle.answers.specs.declared.Tally.{Tally}
+use Rattle.answers.specs.declared.Step.{Step}
 use Rattle.answers.specs.Types.{Counted}
 
 -- success is 0
@@ -33,3 +34,7 @@ pub record Counts (found : Tally) (answer : ℕ) (after : Tally) (r : Counted) :
   pub tally_is : after ≡ counted found answer
   pub answer_is : r ≡ judged answer
   pub number_is : counted_number r ≡ counted_number (judged answer)
+
+-- the tally and the call's answer together
+abbrev pub step_of : Tally → ℕ → Step
+step_of t answer = record { tally = counted t answer; answer = judged answer }

@@ -3,7 +3,8 @@ use Rattle.std.specs.Prelude.{ℕ, Result}
 use Rattle.std.specs.Prelude.{Ok, Err}
 use Rattle.answers.specs.declared.Cause.{Cause}
 use Rattle.answers.specs.declared.Cause.TheVariants.{NoSuchContext, NoGroupName, NoAccessEntry, NoSuchView, NotInView}
-use Rattle.answers.specs.Types.{Decision}
+use Rattle.answers.specs.declared.Decision.{Decision}
+use Rattle.answers.specs.declared.Decision.TheVariants.{Allowed, Refused}
 use Rattle.answers.specs.declared.Fault.{Fault}
 use Rattle.answers.specs.declared.Fault.TheVariants.{NotSound, OutOfRange, TableFull, RowAbsent, StorageForbids, ContextTable, NotAnInstance, Torn}
 use Rattle.answers.specs.declared.Fault.TheVariants.{NotAscending, TooShort, RowHeld, NotASet}
@@ -20,8 +21,8 @@ cause_number NotInView = 5
 
 -- success is 0
 abbrev pub decision_number : Decision → ℕ
-decision_number (Ok tt) = 0
-decision_number (Err c) = cause_number c
+decision_number Allowed = 0
+decision_number (Refused c) = cause_number c
 
 abbrev pub fault_number : Fault → ℕ
 fault_number NotSound = 6

@@ -1,10 +1,7 @@
 -- The answers of the code, as the definitions name them. Assumes nothing.
 use Rattle.std.specs.Prelude.{ℕ, Result}
-use Rattle.answers.specs.declared.Cause.{Cause}
+use Rattle.answers.specs.declared.Decision.{Decision}
 use Rattle.answers.specs.declared.Fault.{Fault}
-
-abbrev pub Decision : Type 0
-Decision = Result (Unit {0}) Cause
 
 abbrev pub Answer : Type 0
 Answer = Result Decision Fault

@@ -4,20 +4,24 @@
 ghost use Rattle.std.specs.Prelude.{◌≡◌};
 ghost use Rattle.answers.specs.declared.Refusal.TheVariants.{Barred, Faulty};
 ghost use Rattle.answers.specs.Numbers.{cause_number, decision_number, fault_number, answer_number, result_number, written_number};
-ghost use Rattle.answers.specs.Counts.{counted_number, Counts};
+ghost use Rattle.answers.specs.Counts.{counted_number, step_of, Counts};
 
 // Why a decision refuses: RFC 3415's errorIndication.
 #[derive(Clone, Copy, PartialEq, Eq, Debug)]
 pub enum Cause {
-    NoSuchContext = 1,
-    NoGroupName = 2,
-    NoAccessEntry = 3,
-    NoSuchView = 4,
-    NotInView = 5,
+    NoSuchContext,
+    NoGroupName,
+    NoAccessEntry,
+    NoSuchView,
+    NotInView,
 }
 
-// What RFC 3415 decides of a request.
-pub type Decision = Result<(), Cause>;
+// What RFC 3415 decides of a request. By document 01's form an enum of its own and no Result, turned into a number by a match.
+#[derive(Clone, Copy, PartialEq, Eq, Debug)]
+pub enum Decision {
+    Allowed,
+    Refused(Cause),
+}
 
 // Why a call does nothing: what it was lent or handed is not in order.
 #[derive(Clone, Copy, PartialEq, Eq, Debug)]
@@ -66,14 +70,23 @@ pub type Answer = Result<Decision, Fault>;
 pub fn cause_number(c: Cause) -> u32
     ensures { result ≡ cause_number c }
 {
-    c as u32
+    match c {
+        Cause::NoSuchContext => 1,
+        Cause::NoGroupName => 2,
+        Cause::NoAccessEntry => 3,
+        Cause::NoSuchView => 4,
+        Cause::NotInView => 5,
+    }
 }
 
 // The number of a decision.
 pub fn decision_number(d: Decision) -> u32
     ensures { result ≡ decision_number d }
 {
-    d.err().map_or(0, cause_number)
+    match d {
+        Decision::Allowed => 0,
+        Decision::Refused(c) => cause_number(c),
+    }
 }
 
 // The number of a fault.
@@ -129,19 +142,36 @@ pub struct Step {
     pub answer: Result<(), Fault>,
 }
 
-// Counts an answer.
+fn step_of(t: Tally, answer: u32) -> Step
+    ensures { result ≡ step_of t answer }
+{
+    let mut tally = t;
+    match answer {
+        0 | 6..=31 => {}
+        1 => tally.unknown_contexts = t.unknown_contexts.wrapping_add(1),
+        2 => tally.no_groups = t.no_groups.wrapping_add(1),
+        3 => tally.no_views = t.no_views.wrapping_add(1),
+        4..=5 => tally.unauthorized_accesses = t.unauthorized_accesses.wrapping_add(1),
+        _ => {
+            return Step {
+                tally,
+                answer: Err(Fault::OutOfRange),
+            };
+        }
+    }
+    Step {
+        tally,
+        answer: Ok(()),
+    }
+}
+
+// Counts an answer: by document 01's form a thin call, over `step_of`.
 pub fn count(tally: &mut Tally, answer: u32) -> Result<(), Fault>
     ensures { Counts tally.old answer tally.new result }
 {
-    match answer {
-        0 | 6..=31 => {}
-        1 => tally.unknown_contexts = tally.unknown_contexts.wrapping_add(1),
-        2 => tally.no_groups = tally.no_groups.wrapping_add(1),
-        3 => tally.no_views = tally.no_views.wrapping_add(1),
-        4..=5 => tally.unauthorized_accesses = tally.unauthorized_accesses.wrapping_add(1),
-        _ => return Err(Fault::OutOfRange),
-    }
-    Ok(())
+    let step = step_of(*tally, answer);
+    *tally = step.tally;
+    step.answer
 }
 
 // The same for a caller that holds its tally by value: it is lent to `count` for the call, and handed back.

@@ -61,7 +61,10 @@ pub fn decide(
         view_type,
         context_name,
     );
-    decision_parts::decide_in(w, authorized.standing?, variable)
+    match authorized.standing {
+        Ok(v) => decision_parts::decide_in(w, v, variable),
+        Err(cause) => Decision::Refused(cause),
+    }
 }
 
 // The row that decides on a variable in numbers, no more than 128 of them, among rows that hold all of the view.
@@ -125,7 +128,10 @@ pub fn decide_variable(
         view_type,
         context_name,
     );
-    decide_variable_in(w, authorized.standing?, variable_name)
+    match authorized.standing {
+        Ok(v) => decide_variable_in(w, v, variable_name),
+        Err(cause) => Decision::Refused(cause),
+    }
 }
 
 // ---- the call

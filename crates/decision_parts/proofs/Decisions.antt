@@ -4,6 +4,7 @@ use mathlib.Core.List.{List}
 use Prim.Native.Nat.{ℕ}
 use Rattle.std.specs.Prelude.{Ok, Err}
 use Rattle.answers.specs.declared.Cause.{Cause}
+use Rattle.answers.specs.declared.Decision.TheVariants.{Refused}
 use Rattle.image_layout.specs.declared.Layout.{Layout}
 use Rattle.image_judge.specs.Faults.{tables_at}
 use Rattle.decision_steps.specs.Request.{asked}
@@ -20,7 +21,7 @@ module _ {w : List ℕ} {l : Layout} {model : ℕ} {name : List ℕ} {level view
       ap (by_authority variable) k.standing.is ∙ sym (decision-parts (tables_at w l) (asked model name level view context variable))
 
   pub denied-decision : {cause : Cause} (variable : List ℕ) → r.standing ≡ Err cause
-      → Err cause ≡ decision (tables_at w l) (asked model name level view context variable)
+      → Refused cause ≡ decision (tables_at w l) (asked model name level view context variable)
   denied-decision variable e = sym (ap (λ u. by_authority variable (saying w u)) e) ∙ by-standing variable
 
   pub viewed-decision : {v : NamedView} (variable : List ℕ) → r.standing ≡ Ok v

@@ -172,11 +172,13 @@ pub fn by_row(w: &[u8], row: Option<(usize, usize)>) -> Decision
     requires whole { OnSome (Whole View) (bytes_at w.now row) }
     ensures { result ≡ or_refused NotInView (Option.map view_of (bytes_at w.now row)) by_type }
 {
-    let (at, end) = row.ok_or(Cause::NotInView)?;
+    let Some((at, end)) = row else {
+        return Decision::Refused(Cause::NotInView);
+    };
     if decision_views::family_type(&w[at..end]) == INCLUDED {
-        return Ok(());
+        return Decision::Allowed;
     }
-    Err(Cause::NotInView)
+    Decision::Refused(Cause::NotInView)
 }
 
 // Step 5: the decision on the variable by the view.

@@ -4,7 +4,7 @@ use mathlib.Core.List.{List}
 use mathlib.Core.Option.{Option, none, some}
 use Prim.Native.Nat.{ℕ}
 use Rattle.answers.specs.declared.Cause.{Cause}
-use Rattle.answers.specs.Types.{Decision}
+use Rattle.answers.specs.declared.Decision.{Decision}
 use Rattle.numbers.specs.Lists.{find}
 use Rattle.rows.specs.Tables.{Tables}
 use Rattle.decision_steps.specs.Request.{Request}

@@ -5,7 +5,8 @@ use Rattle.std.specs.Prelude.{Ok, Err}
 use Rattle.answers.specs.Types.{Answer}
 use Rattle.answers.specs.declared.Cause.{Cause}
 use Rattle.answers.specs.declared.Cause.TheVariants.{NoSuchContext, NoGroupName, NoAccessEntry, NoSuchView, NotInView}
-use Rattle.answers.specs.Types.{Decision}
+use Rattle.answers.specs.declared.Decision.{Decision}
+use Rattle.answers.specs.declared.Decision.TheVariants.{Allowed, Refused}
 use Rattle.answers.specs.declared.Fault.TheVariants.{NotSound, OutOfRange}
 use Rattle.numbers.specs.Lists.{keep, every, any, first, find, top}
 use Rattle.numbers.specs.Order.{same, before, begins}
@@ -111,11 +112,11 @@ included = 1
 -- ---- the steps, from the last to the first: each goes on to the next with what it finds, and refuses where it finds nothing
 
 abbrev pub or_refused : {A : Type 0} → Cause → Option A → (A → Decision) → Decision
-or_refused cause none next = Err cause
+or_refused cause none next = Refused cause
 or_refused cause (some x) next = next x
 
 abbrev pub by_type : ViewRow → Decision
-by_type r = cond (eqb r.family_type included) (Ok tt) (Err NotInView)
+by_type r = cond (eqb r.family_type included) Allowed (Refused NotInView)
 
 abbrev pub step5 : List ℕ → List ViewRow → Decision
 step5 variable rs = or_refused NotInView (chosen_view variable rs) by_type
@@ -164,7 +165,7 @@ authority t model name level view context =
 
 -- step 5 of a variable
 abbrev pub by_authority : List ℕ → Authority → Decision
-by_authority variable (denied cause) = Err cause
+by_authority variable (denied cause) = Refused cause
 by_authority variable (viewed rs) = step5 variable rs
 
 -- the rows that steps 2 and 3 choose, none where the steps do not get there

@@ -7,9 +7,9 @@ use mathlib.Core.Option.{Option, none, some}
 use Prim.Native.Nat.{ℕ, ◌+◌, ◌*◌}
 use lib.Dec.{eqb, leb, ltb}
 use lib.ListN.{length, drop, get_or}
-use Rattle.std.specs.Prelude.{Ok, Err}
 use Rattle.answers.specs.declared.Cause.TheVariants.{NoSuchContext, NoGroupName, NoAccessEntry, NoSuchView, NotInView}
-use Rattle.answers.specs.Types.{Decision}
+use Rattle.answers.specs.declared.Decision.{Decision}
+use Rattle.answers.specs.declared.Decision.TheVariants.{Allowed, Refused}
 use Rattle.answers.specs.declared.Fault.{Fault}
 use Rattle.answers.specs.declared.Fault.TheVariants.{OutOfRange, TableFull, Torn, NotAscending}
 use Rattle.answers.specs.Numbers.{decision_number, fault_number, answer_number}
@@ -93,12 +93,12 @@ fine-image w = fine-cond (ltb (length w) header) _ _ (wrong Torn refl) (fine-siz
 -- ---- and so has the decision
 
 decision-listed : (d : Decision) → is_listed (decision_number d) ≡ true
-decision-listed (Ok tt) = refl
-decision-listed (Err NoSuchContext) = refl
-decision-listed (Err NoGroupName) = refl
-decision-listed (Err NoAccessEntry) = refl
-decision-listed (Err NoSuchView) = refl
-decision-listed (Err NotInView) = refl
+decision-listed Allowed = refl
+decision-listed (Refused NoSuchContext) = refl
+decision-listed (Refused NoGroupName) = refl
+decision-listed (Refused NoAccessEntry) = refl
+decision-listed (Refused NoSuchView) = refl
+decision-listed (Refused NotInView) = refl
 
 answer-listed : (legal : Bool) (t : Tables) (q : Request) → is_listed (answer_number (if_legal legal t q)) ≡ true
 answer-listed true t q = decision-listed (decision t q)

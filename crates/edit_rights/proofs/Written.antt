@@ -9,6 +9,7 @@ use lib.ListN.{length, set, length-append}
 use lib.Seq.{set-append_seam}
 use Rattle.std.specs.Prelude.{Ok, Err}
 use Rattle.answers.specs.declared.Cause.{Cause}
+use Rattle.answers.specs.declared.Decision.TheVariants.{Refused}
 use Rattle.numbers.specs.Lists.{every}
 use Rattle.numbers.proofs.Bools.{and_left}
 use Rattle.rows.specs.declared.Shape.{Shape}
@@ -62,7 +63,7 @@ column-inside t column index = omega (arith, length-append (base t) (column ∷ 
 
 module _ {w : List ℕ} {l : Layout} (c : Caller) {r : Authorized}
     (k : Authorizes w l c.security_model c.security_name c.security_level write [] r) (s : Shape) (t : Table) (index : List ℕ) where
-  judged-denied : {cause : Cause} → r.standing ≡ Err cause → Err cause ≡ judgement_at (tables_at w l) c s t index
+  judged-denied : {cause : Cause} → r.standing ≡ Err cause → Refused cause ≡ judgement_at (tables_at w l) c s t index
   unfolding judgement_at
   judged-denied e = all-refused _ (λ column. denied-decision k (instance t column index) e) s t
 

@@ -2,12 +2,13 @@
 use Rattle.std.specs.Prelude.{Bool, true, false}
 use Rattle.std.specs.Prelude.{Ok, Err}
 use Rattle.answers.specs.declared.Refusal.TheVariants.{Barred, Faulty}
-use Rattle.answers.specs.Types.{Decision}
+use Rattle.answers.specs.declared.Decision.{Decision}
+use Rattle.answers.specs.declared.Decision.TheVariants.{Allowed, Refused}
 use Rattle.answers.specs.declared.Fault.TheVariants.{ContextTable}
 use Rattle.edit_rules.specs.Types.{Edited}
 
 -- of a context row, and of the judgement
 abbrev pub admission : Bool → Decision → Edited
 admission true d = Err (Faulty ContextTable)
-admission false (Ok tt) = Ok tt
-admission false (Err c) = Err (Barred c)
+admission false Allowed = Ok tt
+admission false (Refused c) = Err (Barred c)

@@ -1,7 +1,8 @@
 -- What a principal's standing lets it write: steps 1 to 4 for a write in the empty context, which are the same for every edit of a caller. Assumes nothing.
 use Rattle.std.specs.Prelude.{◌≡◌, List, ℕ}
 use Rattle.std.specs.Prelude.{Ok, Err}
-use Rattle.answers.specs.Types.{Decision}
+use Rattle.answers.specs.declared.Decision.{Decision}
+use Rattle.answers.specs.declared.Decision.TheVariants.{Refused}
 use Rattle.rows.specs.declared.Shape.{Shape}
 use Rattle.rows.specs.declared.Table.{Table}
 use Rattle.image_layout.specs.declared.Layout.{Layout}
@@ -19,7 +20,7 @@ StandingIn w (Ok v) = ViewIn w v
 
 -- the edit of the row with this index, judged by it
 abbrev pub judged_by : List ℕ → Standing → Shape → Table → List ℕ → Decision
-judged_by w (Err cause) s t index = Err cause
+judged_by w (Err cause) s t index = Refused cause
 judged_by w (Ok v) s t index = first_refusal (λ column. step5 (instance t column index) (rows_of w v)) (columns_written s t)
 
 -- it is the caller's: what it judges is what the tables do

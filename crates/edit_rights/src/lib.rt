@@ -74,9 +74,12 @@ fn judge_columns(
     let first = columns.first as usize;
     for column in first..first + columns.count {
         variable[at] = column as u32;
-        decision::decide_variable_in(w, v, variable)?;
+        let judged = decision::decide_variable_in(w, v, variable);
+        let Decision::Allowed = judged else {
+            return judged;
+        };
     }
-    Ok(())
+    Decision::Allowed
 }
 
 // The edit of the row with this key, judged by the view. An instance has no more than 110 parts.
@@ -90,7 +93,7 @@ fn judge_in(w: &[u8], v: NamedView, s: Shape, t: Table, key: &[u8]) -> Decision
     let mut parts = [0u32; MOST_PARTS];
     // never met: a whole key always has an instance, and it fits
     let Ok(n) = instance_encode::encode(t, columns.first as u32, key, &mut parts) else {
-        return Err(Cause::NotInView);
+        return Decision::Refused(Cause::NotInView);
     };
     judge_columns(
         w,
@@ -137,7 +140,10 @@ fn judge_by(
     requires whole { faults (key_fields t) key.now ≡ none }
     ensures { result ≡ judged_by w.now standing s t (index_of t key.now) }
 {
-    judge_in(w, standing?, s, t, key)
+    match standing {
+        Ok(v) => judge_in(w, v, s, t, key),
+        Err(cause) => Decision::Refused(cause),
+    }
 }
 
 // ---- admission
@@ -157,6 +163,8 @@ pub fn admit(
     if is_context(t) {
         return Err(Refusal::Faulty(Fault::ContextTable));
     }
-    judge_by(w, standing, s, t, key)?;
-    Ok(())
+    match judge_by(w, standing, s, t, key) {
+        Decision::Allowed => Ok(()),
+        Decision::Refused(cause) => Err(Refusal::Barred(cause)),
+    }
 }

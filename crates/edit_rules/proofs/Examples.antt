@@ -3,9 +3,9 @@
 use mathlib.Core.Path.{◌≡◌, refl}
 use mathlib.Core.List.{List, [], ◌∷◌, map}
 use Prim.Native.Nat.{ℕ}
-use Rattle.std.specs.Prelude.{Ok, Err}
 use Rattle.answers.specs.declared.Cause.TheVariants.{NoSuchView, NotInView}
-use Rattle.answers.specs.Types.{Decision}
+use Rattle.answers.specs.declared.Decision.{Decision}
+use Rattle.answers.specs.declared.Decision.TheVariants.{Allowed, Refused}
 use Rattle.numbers.specs.Order.{same, before, begins}
 use Rattle.rows.specs.declared.Shape.{Shape}
 use Rattle.rows.specs.declared.Shape.TheVariants.{Row, Key}
@@ -57,45 +57,45 @@ judged t columns s = judgement_at (granting t columns) (caller_of 3 a 1) s t []
 
 -- ---- a row is handed
 
-pub every-column : judged Mapping (3 ∷ 4 ∷ 5 ∷ []) Row ≡ (Ok tt)
+pub every-column : judged Mapping (3 ∷ 4 ∷ 5 ∷ []) Row ≡ Allowed
 unfolding judged
 every-column = refl
 
-pub every-column-of-access : judged Access (4 ∷ 5 ∷ 6 ∷ 7 ∷ 8 ∷ 9 ∷ []) Row ≡ (Ok tt)
+pub every-column-of-access : judged Access (4 ∷ 5 ∷ 6 ∷ 7 ∷ 8 ∷ 9 ∷ []) Row ≡ Allowed
 unfolding judged
 every-column-of-access = refl
 
-pub every-column-of-a-view : judged View (3 ∷ 4 ∷ 5 ∷ 6 ∷ []) Row ≡ (Ok tt)
+pub every-column-of-a-view : judged View (3 ∷ 4 ∷ 5 ∷ 6 ∷ []) Row ≡ Allowed
 unfolding judged
 every-column-of-a-view = refl
 
-pub status-alone : judged Mapping (5 ∷ []) Row ≡ Err NotInView
+pub status-alone : judged Mapping (5 ∷ []) Row ≡ Refused NotInView
 unfolding judged
 status-alone = refl
 
-pub first_alone : judged Access (4 ∷ []) Row ≡ Err NotInView
+pub first_alone : judged Access (4 ∷ []) Row ≡ Refused NotInView
 unfolding judged
 first_alone = refl
 
-pub last-missing : judged View (3 ∷ 4 ∷ 5 ∷ []) Row ≡ Err NotInView
+pub last-missing : judged View (3 ∷ 4 ∷ 5 ∷ []) Row ≡ Refused NotInView
 unfolding judged
 last-missing = refl
 
-pub one-between-missing : judged Access (4 ∷ 5 ∷ 7 ∷ 8 ∷ 9 ∷ []) Row ≡ Err NotInView
+pub one-between-missing : judged Access (4 ∷ 5 ∷ 7 ∷ 8 ∷ 9 ∷ []) Row ≡ Refused NotInView
 unfolding judged
 one-between-missing = refl
 
 -- causes 1 to 4 are the same at each column
-pub no_view : judged Mapping [] Row ≡ Err NoSuchView
+pub no_view : judged Mapping [] Row ≡ Refused NoSuchView
 unfolding judged
 no_view = refl
 
 -- ---- a key is handed
 
-pub removed : judged Mapping (5 ∷ []) Key ≡ (Ok tt)
+pub removed : judged Mapping (5 ∷ []) Key ≡ Allowed
 unfolding judged
 removed = refl
 
-pub kept : judged Access (4 ∷ 5 ∷ 6 ∷ 7 ∷ 8 ∷ []) Key ≡ Err NotInView
+pub kept : judged Access (4 ∷ 5 ∷ 6 ∷ 7 ∷ 8 ∷ []) Key ≡ Refused NotInView
 unfolding judged
 kept = refl

@@ -2,9 +2,9 @@
 use mathlib.Core.Path.{◌≡◌, refl, ap₂}
 use mathlib.Core.List.{List, [], ◌∷◌}
 use Prim.Native.Nat.{ℕ}
-use Rattle.std.specs.Prelude.{Err}
 use Rattle.answers.specs.declared.Cause.{Cause}
-use Rattle.answers.specs.Types.{Decision}
+use Rattle.answers.specs.declared.Decision.{Decision}
+use Rattle.answers.specs.declared.Decision.TheVariants.{Refused}
 use Rattle.rows.specs.declared.Table.{Table}
 use Rattle.rows.specs.declared.Table.TheVariants.{Context, Mapping, Access, View}
 use Rattle.rows.specs.declared.Shape.{Shape}
@@ -31,6 +31,6 @@ written_begin Row Access = begins _ _
 written_begin Row View = begins _ _
 written_begin Key t = begins _ _
 
-pub all-refused : (f : ℕ → Decision) {cause : Cause} → ((column : ℕ) → Err cause ≡ f column) → (s : Shape) (t : Table)
-    → Err cause ≡ first_refusal f (columns_written s t)
+pub all-refused : (f : ℕ → Decision) {cause : Cause} → ((column : ℕ) → Refused cause ≡ f column) → (s : Shape) (t : Table)
+    → Refused cause ≡ first_refusal f (columns_written s t)
 all-refused f {cause} h s t = let b = written_begin s t in rw (b.is, ← (h b.first))

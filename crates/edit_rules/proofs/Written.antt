@@ -7,9 +7,9 @@ use Prim.Native.Nat.{ℕ, zero, suc, ◌+◌, ◌≤◌, ◌<◌}
 use native.Mathlib.Omega.{arith}
 use lib.Dec.{eqb}
 use borrow.Author.Tests.{eqb-true, eq-eqb}
-use Rattle.std.specs.Prelude.{Ok, Err}
 use Rattle.answers.specs.declared.Cause.{Cause}
-use Rattle.answers.specs.Types.{Decision}
+use Rattle.answers.specs.declared.Decision.{Decision}
+use Rattle.answers.specs.declared.Decision.TheVariants.{Allowed, Refused}
 use Rattle.numbers.specs.Lists.{any}
 use Rattle.numbers.proofs.Bools.{split, clash}
 use Rattle.rows.specs.declared.Table.{Table}
@@ -18,20 +18,20 @@ use Rattle.instance_encode.specs.Instances.{columns, counted, status_column}
 use Rattle.edit_rules.specs.Edits.{column_judged, if_allowed, first_refusal, judgement_at}
 use Rattle.edit_rules.specs.Columns.{EveryColumnCounts}
 
-allowed-first : (d next : Decision) → if_allowed d next ≡ (Ok tt) → d ≡ (Ok tt)
-allowed-first (Ok tt) next e = refl
-allowed-first (Err cause) next e = e
+allowed-first : (d next : Decision) → if_allowed d next ≡ Allowed → d ≡ Allowed
+allowed-first Allowed next e = refl
+allowed-first (Refused cause) next e = e
 
-allowed-next : (d next : Decision) → if_allowed d next ≡ (Ok tt) → next ≡ (Ok tt)
-allowed-next (Ok tt) next e = e
-allowed-next (Err cause) next e = cc
+allowed-next : (d next : Decision) → if_allowed d next ≡ Allowed → next ≡ Allowed
+allowed-next Allowed next e = e
+allowed-next (Refused cause) next e = cc
 
-only : (d : Decision) → if_allowed d (Ok tt) ≡ d
-only (Ok tt) = refl
-only (Err cause) = refl
+only : (d : Decision) → if_allowed d Allowed ≡ d
+only Allowed = refl
+only (Refused cause) = refl
 
 module _ (judged : ℕ → Decision) where
-  each-allowed : (xs : List ℕ) → first_refusal judged xs ≡ (Ok tt) → (x : ℕ) → any (eqb x) xs ≡ true → judged x ≡ (Ok tt)
+  each-allowed : (xs : List ℕ) → first_refusal judged xs ≡ Allowed → (x : ℕ) → any (eqb x) xs ≡ true → judged x ≡ Allowed
   each-allowed [] e x i = cc
   each-allowed (y ∷ xs) e x i =
       split (eqb x y) (λ q. ap judged (eqb-true x y q) ∙ allowed-first (judged y) (first_refusal judged xs) e)
@@ -41,8 +41,8 @@ module _ (judged : ℕ → Decision) where
   record Met (xs : List ℕ) (cause : Cause) : Type 0 where
     at : ℕ
     inside : any (eqb at) xs ≡ true
-    refused : judged at ≡ Err cause
-    below : (x : ℕ) → any (eqb x) xs ≡ true → x < at → judged x ≡ (Ok tt)
+    refused : judged at ≡ Refused cause
+    below : (x : ℕ) → any (eqb x) xs ≡ true → x < at → judged x ≡ Allowed
 
   from_first : (first n x : ℕ) → any (eqb x) (counted first n) ≡ true → first ≤ x
   from_first first zero x i = clash i refl
@@ -50,9 +50,9 @@ module _ (judged : ℕ → Decision) where
       split (eqb x first) (λ q. omega (arith, eqb-true x first q)) (λ q. omega (arith, from_first (first + 1) n x (rw q at i)))
 
   -- with the first judged, and those behind it met
-  met_by : (first n : ℕ) {cause : Cause} (d : Decision) → judged first ≡ d → if_allowed d (first_refusal judged (counted (first + 1) n)) ≡ Err cause
-      → (first_refusal judged (counted (first + 1) n) ≡ Err cause → Met (counted (first + 1) n) cause) → Met (counted first (suc n)) cause
-  met_by first n (Ok tt) q e next =
+  met_by : (first n : ℕ) {cause : Cause} (d : Decision) → judged first ≡ d → if_allowed d (first_refusal judged (counted (first + 1) n)) ≡ Refused cause
+      → (first_refusal judged (counted (first + 1) n) ≡ Refused cause → Met (counted (first + 1) n) cause) → Met (counted first (suc n)) cause
+  met_by first n Allowed q e next =
       let m = next e in
       record {
         at = m.at;
@@ -60,7 +60,7 @@ module _ (judged : ℕ → Decision) where
         refused = m.refused;
         below = λ x i h. split (eqb x first) (λ y. ap judged (eqb-true x first y) ∙ q) (λ y. m.below x (rw y at i) h);
       }
-  met_by first n (Err other) q e next =
+  met_by first n (Refused other) q e next =
       record {
         at = first;
         inside = rw (eq-eqb first first refl);
@@ -68,11 +68,11 @@ module _ (judged : ℕ → Decision) where
         below = λ x i h. absurd (omega (arith, from_first first (suc n) x i));
       }
 
-  met : (first n : ℕ) {cause : Cause} → first_refusal judged (counted first n) ≡ Err cause → Met (counted first n) cause
+  met : (first n : ℕ) {cause : Cause} → first_refusal judged (counted first n) ≡ Refused cause → Met (counted first n) cause
   met first zero e = let z : ◌≡◌ {A = ℕ} 0 1 = cc e in absurd (omega arith)
   met first (suc n) e = met_by first n (judged first) refl e (met (first + 1) n)
 
-  met-column : (t : Table) {cause : Cause} → first_refusal judged (columns t) ≡ Err cause → Met (columns t) cause
+  met-column : (t : Table) {cause : Cause} → first_refusal judged (columns t) ≡ Refused cause → Met (columns t) cause
   met-column Context e = met 1 1 e
   met-column Mapping e = met 3 3 e
   met-column Access e = met 4 6 e

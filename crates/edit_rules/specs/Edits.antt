@@ -4,7 +4,8 @@ use Rattle.std.specs.Prelude.{Bool, true, false, cond, not, ◌&&◌, ◌||◌, 
 use Rattle.std.proofs.Math.Option.{Option, none, some, map}
 use Rattle.std.specs.Prelude.{Ok, Err}
 use Rattle.answers.specs.declared.Refusal.TheVariants.{Barred, Faulty}
-use Rattle.answers.specs.Types.{Decision}
+use Rattle.answers.specs.declared.Decision.{Decision}
+use Rattle.answers.specs.declared.Decision.TheVariants.{Allowed, Refused}
 use Rattle.answers.specs.declared.Fault.{Fault}
 use Rattle.answers.specs.declared.Fault.TheVariants.{TableFull, RowAbsent, StorageForbids, RowHeld}
 use Rattle.answers.specs.Numbers.{cause_number, fault_number}
@@ -170,11 +171,11 @@ column_judged ts c t index column =
     decision ts (asked c.security_model c.security_name c.security_level write [] (instance t column index))
 
 abbrev pub if_allowed : Decision → Decision → Decision
-if_allowed (Ok tt) next = next
-if_allowed (Err cause) next = Err cause
+if_allowed Allowed next = next
+if_allowed (Refused cause) next = Refused cause
 
 abbrev pub first_refusal : (ℕ → Decision) → List ℕ → Decision
-first_refusal judged [] = (Ok tt)
+first_refusal judged [] = Allowed
 first_refusal judged (column ∷ columns) = if_allowed (judged column) (first_refusal judged columns)
 
 unfoldable pub judgement_at : Tables → Caller → Shape → Table → List ℕ → Decision

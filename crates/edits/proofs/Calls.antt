@@ -11,7 +11,8 @@ use native.Mathlib.Omega.{arith}
 use Rattle.std.specs.Prelude.{Ok, Err}
 use Rattle.answers.specs.declared.Refusal.{Refusal}
 use Rattle.answers.specs.declared.Refusal.TheVariants.{Faulty}
-use Rattle.answers.specs.Types.{Decision}
+use Rattle.answers.specs.declared.Decision.{Decision}
+use Rattle.answers.specs.declared.Decision.TheVariants.{Allowed, Refused}
 use Rattle.answers.specs.declared.Fault.{Fault}
 use Rattle.answers.specs.declared.Fault.TheVariants.{NotSound, OutOfRange, ContextTable}
 use Rattle.numbers.specs.Lists.{is_none}
@@ -159,19 +160,19 @@ module _ {o : Operation} {t : Table} {w bytes : List ℕ} {l : Layout} {k : ℕ}
 module _ (v : Edited) where
   pub granted-is : (b : Bool) (j : Decision) → Ok tt ≡ admission b j → cond b (Err (Faulty ContextTable)) (allowed j v) ≡ v
   granted-is true j a = cc
-  granted-is false (Ok tt) a = refl
-  granted-is false (Err x) a = cc
+  granted-is false Allowed a = refl
+  granted-is false (Refused x) a = cc
 
   pub denied-is : (b : Bool) (j : Decision) {r : Edited} {f : Refusal} → r ≡ admission b j → r ≡ Err f → cond b (Err (Faulty ContextTable)) (allowed j v) ≡ r
   denied-is true j a n = sym a
-  denied-is false (Ok tt) a n = absurd (done-refused (sym a ∙ n))
-  denied-is false (Err x) a n = sym a
+  denied-is false Allowed a n = absurd (done-refused (sym a ∙ n))
+  denied-is false (Refused x) a n = sym a
 
 -- a denial is no edit made
 denied-settled : (b : Bool) (j : Decision) {r : Edited} {f : Refusal} → r ≡ admission b j → r ≡ Err f → (ts : Tables) (e : Edit) → settled r ts e ≡ outcome r ts
 denied-settled true j a n ts e = rw a refl
-denied-settled false (Ok tt) a n ts e = absurd (done-refused (sym a ∙ n))
-denied-settled false (Err x) a n ts e = rw a refl
+denied-settled false Allowed a n ts e = absurd (done-refused (sym a ∙ n))
+denied-settled false (Refused x) a n ts e = rw a refl
 
 -- ---- a principal's edit of a sound store, by what is legal
 

@@ -5,9 +5,10 @@ use mathlib.Core.Path.{◌≡◌, refl}
 use mathlib.Core.Bool.{Bool, true, false}
 use mathlib.Core.List.{List}
 use Prim.Native.Nat.{ℕ}
-use Rattle.std.specs.Prelude.{Ok, Err}
+use Rattle.std.specs.Prelude.{Err}
 use Rattle.answers.specs.declared.Refusal.TheVariants.{Barred, Faulty}
-use Rattle.answers.specs.Types.{Decision}
+use Rattle.answers.specs.declared.Decision.{Decision}
+use Rattle.answers.specs.declared.Decision.TheVariants.{Allowed, Refused}
 use Rattle.answers.specs.declared.Fault.TheVariants.{OutOfRange, ContextTable}
 use Rattle.numbers.proofs.Bools.{split, clash}
 use Rattle.numbers.specs.BigEndian.{Octets}
@@ -53,7 +54,7 @@ module _ (e : Edit) (d : Octets e.bytes) (w : List ℕ) (b : Octets w) where
     -- as the tables judge it
     judged-made : is_sound w ≡ true → legal_caller c ≡ true → legal_edit e ≡ true → is_context e.table ≡ false → (j : Decision)
         → j ≡ judgement (tables_at w (layout_of w)) c e → Made f w
-    judged-made h k l o (Ok tt) q =
+    judged-made h k l o Allowed q =
         let m = made true (λ y. o) h l in
         record {
           left = m.left;
@@ -61,7 +62,7 @@ module _ (e : Edit) (d : Octets e.bytes) (w : List ℕ) (b : Octets w) where
           promise = principal-granted c e w h k l refl (rw (o, ← q)) m.promise;
           octets = m.octets;
         }
-    judged-made h k l o (Err x) q = stays f w b (principal-denied c e w h k l refl {r = Err (Barred x)} (rw (o, ← q)) refl)
+    judged-made h k l o (Refused x) q = stays f w b (principal-denied c e w h k l refl {r = Err (Barred x)} (rw (o, ← q)) refl)
 
     pub principal-made : Made f w
     principal-made =

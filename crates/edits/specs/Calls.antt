@@ -3,7 +3,8 @@
 use Rattle.std.specs.Prelude.{true, false, cond, ◌&&◌, List, ℕ}
 use Rattle.std.specs.Prelude.{Ok, Err}
 use Rattle.answers.specs.declared.Refusal.TheVariants.{Barred, Faulty}
-use Rattle.answers.specs.Types.{Decision}
+use Rattle.answers.specs.declared.Decision.{Decision}
+use Rattle.answers.specs.declared.Decision.TheVariants.{Allowed, Refused}
 use Rattle.answers.specs.declared.Fault.TheVariants.{NotSound, OutOfRange, ContextTable}
 use Rattle.rows.specs.declared.Table.{Table}
 use Rattle.rows.specs.Fields.{span}
@@ -25,8 +26,8 @@ unfoldable pub owner_judged : Tables → Edit → Edited
 owner_judged t e = cond (legal_edit e) (faulted (row_fault false t e)) (Err (Faulty OutOfRange))
 
 abbrev pub allowed : Decision → Edited → Edited
-allowed (Ok tt) r = r
-allowed (Err c) r = Err (Barred c)
+allowed Allowed r = r
+allowed (Refused c) r = Err (Barred c)
 
 -- a principal's: 7 for the caller's fields, then the row's; 12; 1 to 5; 10 or 18, then 11
 unfoldable pub principal_judged : Tables → Caller → Edit → Edited

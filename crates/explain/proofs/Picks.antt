@@ -8,7 +8,8 @@ use Prim.Native.Nat.{ℕ}
 use Rattle.std.specs.Prelude.{Ok, Err, None}
 use Rattle.answers.specs.declared.Cause.{Cause}
 use Rattle.answers.specs.declared.Cause.TheVariants.{NoSuchContext, NoGroupName, NoAccessEntry, NoSuchView, NotInView}
-use Rattle.answers.specs.Types.{Decision}
+use Rattle.answers.specs.declared.Decision.{Decision}
+use Rattle.answers.specs.declared.Decision.TheVariants.{Refused}
 use Rattle.numbers.specs.Lists.{find}
 use Rattle.rows.specs.declared.Table.TheVariants.{View}
 use Rattle.rows.specs.Rows.{ContextRow, MappingRow, AccessRow, ViewRow, view_of}
@@ -62,7 +63,7 @@ view-picked t q =
 -- ---- by a standing
 
 module _ {w : List ℕ} (variable : List ℕ) {s : Standing} where
-  pub judged-denied : {cause : Cause} → s ≡ Err cause → Judges w variable (saying w s) (record { view = None; decision = Err cause })
+  pub judged-denied : {cause : Cause} → s ≡ Err cause → Judges w variable (saying w s) (record { view = None; decision = Refused cause })
   judged-denied e = rw e (record { view_is = chosen (held_none View w) refl; decision_is = refl })
 
   module _ {v : NamedView} (e : s ≡ Ok v) where

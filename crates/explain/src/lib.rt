@@ -34,8 +34,8 @@ fn judge(w: &[u8], standing: Result<NamedView, Cause>, variable_name: &[u32]) ->
 {
     match standing {
         Err(cause) => Judged {
-            view: None,
-            decision: Err(cause),
+            view: None, // where there is no view, no row of one decides
+            decision: Decision::Refused(cause),
         },
         Ok(v) => {
             let view = decision::variable_row_in(w, v, variable_name);

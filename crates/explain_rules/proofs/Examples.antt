@@ -3,9 +3,10 @@ use mathlib.Core.Path.{◌≡◌, refl}
 use mathlib.Core.List.{List, [], ◌∷◌}
 use mathlib.Core.Option.{Option, none, some}
 use Prim.Native.Nat.{ℕ}
-use Rattle.std.specs.Prelude.{Ok, Err, Some, None}
+use Rattle.std.specs.Prelude.{Ok, Some, None}
 use Rattle.answers.specs.declared.Cause.TheVariants.{NoSuchContext, NoGroupName, NoAccessEntry, NoSuchView, NotInView}
-use Rattle.answers.specs.Types.{Decision}
+use Rattle.answers.specs.declared.Decision.{Decision}
+use Rattle.answers.specs.declared.Decision.TheVariants.{Allowed, Refused}
 use Rattle.answers.specs.declared.Fault.TheVariants.{NotSound, OutOfRange}
 use Rattle.numbers.specs.Order.{same, before, begins}
 use Rattle.rows.specs.Rows.{MappingRow, AccessRow, ViewRow}
@@ -72,38 +73,38 @@ told name level view context variable = explanation (some tables) (asked 3 name 
 abbrev answered : Decision → Option MappingRow → Option AccessRow → Option ViewRow → Explanation
 answered d mapping access view = record { answer = Ok d; mapping = mapping; access = access; view = view }
 
-pub allowed : told ann 3 read [] (1 ∷ 1 ∷ []) ≡ answered (Ok tt) (some (maps ann leads 1)) (some (accesses 3 2 base)) (some (family base (1 ∷ []) 1 1))
+pub allowed : told ann 3 read [] (1 ∷ 1 ∷ []) ≡ answered Allowed (some (maps ann leads 1)) (some (accesses 3 2 base)) (some (family base (1 ∷ []) 1 1))
 unfolding told
 allowed = refl
 
 -- the excluded row decides; a longer one is out of service, and the view of the lower candidate would include the variable
 pub excluded : told ann 3 read [] (1 ∷ 2 ∷ 3 ∷ [])
-    ≡ answered (Err NotInView) (some (maps ann leads 1)) (some (accesses 3 2 base)) (some (family base (1 ∷ 2 ∷ []) 2 1))
+    ≡ answered (Refused NotInView) (some (maps ann leads 1)) (some (accesses 3 2 base)) (some (family base (1 ∷ 2 ∷ []) 2 1))
 unfolding told
 excluded = refl
 
-pub no_match : told ann 3 read [] (2 ∷ []) ≡ answered (Err NotInView) (some (maps ann leads 1)) (some (accesses 3 2 base)) none
+pub no_match : told ann 3 read [] (2 ∷ []) ≡ answered (Refused NotInView) (some (maps ann leads 1)) (some (accesses 3 2 base)) none
 unfolding told
 no_match = refl
 
 -- 4 for its two reasons: the row names no view, or one without active rows
-pub no_name : told ann 3 write [] (1 ∷ []) ≡ answered (Err NoSuchView) (some (maps ann leads 1)) (some (accesses 3 2 base)) none
+pub no_name : told ann 3 write [] (1 ∷ []) ≡ answered (Refused NoSuchView) (some (maps ann leads 1)) (some (accesses 3 2 base)) none
 unfolding told
 no_name = refl
 
-pub no_rows : told ann 3 notify [] (1 ∷ []) ≡ answered (Err NoSuchView) (some (maps ann leads 1)) (some (accesses 3 2 base)) none
+pub no_rows : told ann 3 notify [] (1 ∷ []) ≡ answered (Refused NoSuchView) (some (maps ann leads 1)) (some (accesses 3 2 base)) none
 unfolding told
 no_rows = refl
 
-pub no_candidate : told cal 3 read [] (1 ∷ []) ≡ answered (Err NoAccessEntry) (some (maps cal cal 1)) none none
+pub no_candidate : told cal 3 read [] (1 ∷ []) ≡ answered (Refused NoAccessEntry) (some (maps cal cal 1)) none none
 unfolding told
 no_candidate = refl
 
-pub out-of-service : told bob 3 read [] (1 ∷ []) ≡ answered (Err NoGroupName) none none none
+pub out-of-service : told bob 3 read [] (1 ∷ []) ≡ answered (Refused NoGroupName) none none none
 unfolding told
 out-of-service = refl
 
-pub no_context : told ann 3 read cal (1 ∷ []) ≡ answered (Err NoSuchContext) none none none
+pub no_context : told ann 3 read cal (1 ∷ []) ≡ answered (Refused NoSuchContext) none none none
 unfolding told
 no_context = refl
 

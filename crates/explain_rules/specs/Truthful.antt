@@ -5,6 +5,7 @@ use Rattle.std.proofs.Math.Option.{Option, none, some}
 use Rattle.std.specs.Prelude.{Ok, Err}
 use Rattle.answers.specs.Types.{Answer}
 use Rattle.answers.specs.declared.Cause.TheVariants.{NoSuchContext, NoGroupName, NoAccessEntry, NoSuchView, NotInView}
+use Rattle.answers.specs.declared.Decision.TheVariants.{Allowed, Refused}
 use Rattle.answers.specs.declared.Fault.TheVariants.{OutOfRange}
 use Rattle.numbers.specs.Lists.{Among, NoneOf}
 use Rattle.numbers.specs.Order.{before}
@@ -52,19 +53,19 @@ NoView t name = (name ≡ []) ⊎ NoneOf (in_view name) t.vacm_view_tree_family_
 -- for each answer the rows that are shown, and why: there is no other case
 pub data Because (t : Tables) (q : Request) : Answer → Option MappingRow → Option AccessRow → Option ViewRow → Type 0 where
   out_of_range : legal_request q ≡ false → Because t q (Err OutOfRange) none none none
-  no_context : NoneOf (bears_context q.context_name) t.vacm_context_table → Because t q (Ok (Err NoSuchContext)) none none none
+  no_context : NoneOf (bears_context q.context_name) t.vacm_context_table → Because t q (Ok (Refused NoSuchContext)) none none none
   no_mapping : NoneOf (maps_principal q.security_model q.security_name) t.vacm_security_to_group_table
-      → Because t q (Ok (Err NoGroupName)) none none none
+      → Because t q (Ok (Refused NoGroupName)) none none none
   no_candidate : {m : MappingRow}
       → NoneOf (candidate m.group_name q.security_model q.security_level q.context_name) t.vacm_access_table
-      → Because t q (Ok (Err NoAccessEntry)) (some m) none none
-  no_view : {m : MappingRow} {a : AccessRow} → NoView t (view_for q.view_type a) → Because t q (Ok (Err NoSuchView)) (some m) (some a) none
+      → Because t q (Ok (Refused NoAccessEntry)) (some m) none none
+  no_view : {m : MappingRow} {a : AccessRow} → NoView t (view_for q.view_type a) → Because t q (Ok (Refused NoSuchView)) (some m) (some a) none
   no_match : {m : MappingRow} {a : AccessRow}
       → ((r : ViewRow) → Among r t.vacm_view_tree_family_table → in_view (view_for q.view_type a) r ≡ true → matches q.variable_name r ≡ false)
-      → Because t q (Ok (Err NotInView)) (some m) (some a) none
+      → Because t q (Ok (Refused NotInView)) (some m) (some a) none
   is_excluded : {m : MappingRow} {a : AccessRow} {r : ViewRow} → (r.family_type ≡ included → ⊥)
-      → Because t q (Ok (Err NotInView)) (some m) (some a) (some r)
-  is_included : {m : MappingRow} {a : AccessRow} {r : ViewRow} → r.family_type ≡ included → Because t q (Ok (Ok tt)) (some m) (some a) (some r)
+      → Because t q (Ok (Refused NotInView)) (some m) (some a) (some r)
+  is_included : {m : MappingRow} {a : AccessRow} {r : ViewRow} → r.family_type ≡ included → Because t q (Ok Allowed) (some m) (some a) (some r)
 
 -- ---- of tables that are sound
 

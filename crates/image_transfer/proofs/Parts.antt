@@ -1,11 +1,11 @@
 -- Bytes written into a buffer from the front on, part by part: what is written so far stands at the front, and the rest is as found.
 -- A part put behind it makes that front longer by the part. Assumes nothing.
 use mathlib.Core.Path.{◌≡◌, sym, ap, ap₂, ◌∙◌}
-use mathlib.Core.List.{List, ◌++◌, append_assoc}
+use mathlib.Core.List.{List, ◌++◌, append_assoc, append-nil}
 use Prim.Native.Nat.{ℕ, ◌+◌, ◌-◌, ◌≤◌, ◌<◌}
 use native.Mathlib.Nat.{zero-add}
 use native.Mathlib.Omega.{arith}
-use lib.ListN.{length, take, drop, length-append, length-drop, take-append-drop}
+use lib.ListN.{length, take, drop, length-append, length-drop, take-append-drop, drop_of_length-le}
 use lib.Seq.{paste, take-length, take_at, drop_at, drop-drop, take-add, length-take-le}
 use borrow.Rule.Slice.PartMut.{put_mid}
 use Rattle.image_layout.specs.declared.Extent.{Extent}
@@ -19,9 +19,14 @@ length-overlaid new found h = simp (length-append, length-drop) (omega arith)
 pub length-piece : (v : List ℕ) (o l : ℕ) → o + l ≤ length v → length (piece v o (o + l)) ≡ l
 length-piece v o l h = ap length (piece-add v o l) ∙ length-take-le l (drop o v) (omega (arith, length-drop o v))
 
--- a copy at the front
+-- a copy at the front, and of all of it
 pub paste-front : (new found : List ℕ) → paste found 0 new (length new) ≡ overlaid new found
 paste-front new found = rw (take-length new, zero-add (length new))
+
+pub paste_all : (new found : List ℕ) → length found ≡ length new → paste found 0 new (length new) ≡ new
+paste_all new found e =
+    let h : length found ≤ length new = omega arith in
+    paste-front new found ∙ rw (drop_of_length-le found h) (append-nil new)
 
 -- the front of w stands at the front of v
 pub overlaid-same : (o : ℕ) (w v : List ℕ) → o ≤ length w → take o v ≡ take o w → v ≡ overlaid (take o w) v

@@ -45,7 +45,7 @@ fn decode_index(
     ensures { Delivers (read_index table column index.now) key.old key.new result }
 {
     let (at, n) = instance_fields::read_fields(table, index, made).ok_or(Fault::NotAnInstance)?;
-    if at < index.len() {
+    if 0 < reader::left_at(index, at) {
         return Err(Fault::NotAnInstance);
     }
     splice::copy_in(key, 0, &made[..n]);

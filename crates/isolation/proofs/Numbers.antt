@@ -12,7 +12,8 @@ use Rattle.answers.specs.declared.Cause.TheVariants.{NoSuchContext, NoGroupName,
 use Rattle.answers.specs.declared.Fault.{Fault}
 use Rattle.answers.specs.declared.Fault.TheVariants.{NotSound, OutOfRange, TableFull, RowAbsent, StorageForbids, ContextTable, NotAnInstance, Torn}
 use Rattle.answers.specs.declared.Fault.TheVariants.{NotAscending, TooShort, RowHeld, NotASet}
-use Rattle.answers.specs.Types.{Decision}
+use Rattle.answers.specs.declared.Decision.{Decision}
+use Rattle.answers.specs.declared.Decision.TheVariants.{Allowed, Refused}
 use Rattle.answers.specs.Numbers.{cause_number, fault_number}
 use Rattle.numbers.specs.Lists.{any}
 use Rattle.numbers.proofs.Bools.{split, clash, is_false, is_true, and_left, or_left, or_right}
@@ -81,8 +82,8 @@ zero-is-done (Err (Faulty f)) e = clash e (fault-zero f)
 -- ---- 9 is told of creates alone, so that the condition on creates excludes 'table full' altogether
 
 allowed-nine : (d : Decision) (v : Edited) → eqb (edited_number v) 9 ≡ false → eqb (edited_number (allowed d v)) 9 ≡ false
-allowed-nine (Ok tt) v h = h
-allowed-nine (Err c) v h = cause-nine c
+allowed-nine Allowed v h = h
+allowed-nine (Refused c) v h = cause-nine c
 
 pub owner-nine : (ts : Tables) (e : Edit) → eqb (edited_number (owner_edit ts e).answer) 9 ≡ true → is_create e.operation ≡ true
 unfolding owner_edit owner_judged

@@ -14,6 +14,10 @@ part_at parts at = cond (ltb at (length parts)) (Some (get_or parts at 0)) None
 abbrev pub behind : List ℕ → ℕ → ℕ
 behind parts at = cond (ltb at (length parts)) (at + 1) at
 
+-- the part and the place behind it together
+abbrev pub step_at : List ℕ → ℕ → Part × ℕ
+step_at parts at = (part_at parts at, behind parts at)
+
 -- the same parts, at the place behind the part that was read
 abbrev pub moved_on : Reader → Reader
 moved_on r = record { parts = r.parts; at = behind r.parts.now r.at }

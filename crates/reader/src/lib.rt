@@ -1,14 +1,25 @@
-// A reader over lent sub-identifiers that knows its place. `read_from` stands above it, for callers that hold no reader.
-// Its functions are free, and no methods: the promises name `reader::next`.
+// A reader over lent sub-identifiers that knows its place. By document 01's form its steps are thin: each leaves the work to a function on the slice and
+// the place. `read_from` stands above it, for callers that hold no reader. Its functions are free, and no methods: the promises name `reader::next`.
 #![tactic(auto)]
 
 ghost use Rattle.std.specs.Prelude.{◌≡◌, ◌-◌, length};
-ghost use Rattle.reader.specs.Reading.{reader_at, ReadsOn, read_from};
+ghost use Rattle.reader.specs.Reading.{step_at, reader_at, ReadsOn, read_from};
 
 #[derive(Clone, Copy, PartialEq, Eq, Debug)]
 pub struct Reader<'a> {
     pub parts: &'a [u32],
     pub at: usize,
+}
+
+// The part at a place, and the place behind it; at the end there is no part, and the place stays.
+fn step_at(parts: &[u32], at: usize) -> (Option<u32>, usize)
+    ensures { result ≡ step_at parts.now at }
+{
+    if at < parts.len() {
+        (Some(parts[at]), at + 1)
+    } else {
+        (None, at)
+    }
 }
 
 // How many parts there are from a place on.
@@ -29,9 +40,9 @@ pub fn new(parts: &[u32], at: usize) -> Reader<'_>
 pub fn next(r: &mut Reader) -> Option<u32>
     ensures { ReadsOn r.old r.new result }
 {
-    let part = *r.parts.get(r.at)?;
-    r.at += 1;
-    Some(part)
+    let (part, at) = step_at(r.parts, r.at);
+    r.at = at;
+    part
 }
 
 // How many parts are left.

@@ -14,7 +14,8 @@ use lib.ListN.{length}
 use borrow.Author.Tests.{ltb-false, not-true}
 use Rattle.std.specs.Prelude.{Ok, Err}
 use Rattle.answers.specs.declared.Refusal.TheVariants.{Barred, Faulty}
-use Rattle.answers.specs.Types.{Decision}
+use Rattle.answers.specs.declared.Decision.{Decision}
+use Rattle.answers.specs.declared.Decision.TheVariants.{Allowed, Refused}
 use Rattle.answers.specs.declared.Fault.{Fault}
 use Rattle.numbers.specs.BigEndian.{Octets}
 use Rattle.numbers.specs.Lists.{any}
@@ -62,8 +63,8 @@ undone r n = is_false (is_done r) (λ e. n (is-done r e))
 -- ---- an edit judged Done is in order
 
 allowed-done : (d : Decision) (r : Edited) → allowed d r ≡ (Ok tt) → r ≡ (Ok tt)
-allowed-done (Ok tt) r e = e
-allowed-done (Err c) r e = let z : ◌≡◌ {A = ℕ} 0 1 = cc e in absurd (omega arith)
+allowed-done Allowed r e = e
+allowed-done (Refused c) r e = let z : ◌≡◌ {A = ℕ} 0 1 = cc e in absurd (omega arith)
 
 faulted-none : (f : Option Fault) → faulted f ≡ (Ok tt) → f ≡ none
 faulted-none none e = refl

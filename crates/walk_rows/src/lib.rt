@@ -11,6 +11,7 @@ ghost use Rattle.decision_steps.specs.Bytes.{Whole};
 ghost use Rattle.decision_parts.specs.Parts.{ViewIn, rows_of};
 ghost use Rattle.instance_encode.specs.Instances.{lists, instance};
 ghost use Rattle.edit_rules.specs.TableRows.{row_of, row_index};
+ghost use Rattle.walk_rules.specs.Walk.{is_allowed};
 ghost use Rattle.walk_rows.specs.Reading.{readable, readable_row};
 
 use answers::Decision;
@@ -37,6 +38,12 @@ pub fn key_end(t: Table, row: &[u8]) -> usize
     }
 }
 
+fn is_allowed(d: Decision) -> bool
+    ensures { result ≡ is_allowed d }
+{
+    d == Decision::Allowed
+}
+
 // Whether the view lets the instance of a column of the row with this key be read.
 fn is_readable(w: &[u8], v: NamedView, t: Table, column: u32, key: &[u8]) -> bool
     requires view { ViewIn w.now v }
@@ -49,7 +56,7 @@ fn is_readable(w: &[u8], v: NamedView, t: Table, column: u32, key: &[u8]) -> boo
     let Ok(n) = written else {
         return false;
     };
-    decision::decide_variable_in(w, v, &parts[0..n]).is_ok()
+    is_allowed(decision::decide_variable_in(w, v, &parts[0..n]))
 }
 
 // Whether the row's index is above the parts.

@@ -2,8 +2,8 @@
 -- table, column and key". Over the rows held, and what the call promises. Assumes nothing.
 use Rattle.std.specs.Prelude.{◌≡◌, Bool, true, false, cond, not, ◌&&◌, List, [], ◌∷◌, ◌++◌, map, ℕ, leb, length, take}
 use Rattle.std.proofs.Math.Option.{Option, none, some}
-use Rattle.std.specs.Prelude.{Ok, Err}
-use Rattle.answers.specs.Types.{Decision}
+use Rattle.answers.specs.declared.Decision.{Decision}
+use Rattle.answers.specs.declared.Decision.TheVariants.{Allowed, Refused}
 use Rattle.answers.specs.declared.Fault.TheVariants.{NotSound, OutOfRange}
 use Rattle.numbers.specs.Laid.{laid}
 use Rattle.numbers.specs.Lists.{keep, every, find}
@@ -54,8 +54,8 @@ instances ts = of_table ts Context ++ (of_table ts Mapping ++ (of_table ts Acces
 
 -- "that the principal may read in the empty context"
 abbrev pub is_allowed : Decision → Bool
-is_allowed (Ok tt) = true
-is_allowed (Err cause) = false
+is_allowed Allowed = true
+is_allowed (Refused cause) = false
 
 unfoldable pub may_read : Tables → Caller → List ℕ → Bool
 may_read ts c variable = is_allowed (decision ts (asked c.security_model c.security_name c.security_level read [] variable))

@@ -1,13 +1,14 @@
 -- `decision::decide` meets its contract: the decision is its two parts, and a cause or a view is what the first came to (`Decisions`). Assumes nothing.
 use mathlib.Core.Path.{◌∙◌}
 use Rattle.decision_steps.specs.Bytes.{identifier}
-use Rattle.answers.proofs.Results.{refusal}
-use Rattle.decision_parts.proofs.Decisions.{denied-decision, viewed-decision}
+use Rattle.decision_parts.proofs.Decisions.{denied-decision, viewed-decision, viewed-in}
 use Rattle.decision.proofs.decide.Goals as goal
 
-pub returns-in_err-authorized : goal.returns-in_err-authorized
-returns-in_err-authorized c =
-    refusal c.from_residual.ensures ∙ denied-decision c.authorize-authorized.ensures (identifier c.args.variable.now) c.in_err-authorized.was
+pub decide_in-requires : goal.decide_in-requires
+decide_in-requires c = viewed-in c.authorize-authorized.ensures c.in-Ok.is
 
-pub returns : goal.returns
-returns c = c.decide_in.ensures ∙ viewed-decision c.authorize-authorized.ensures (identifier c.args.variable.now) c.in_ok-authorized.was
+pub returns-in-Err : goal.returns-in-Err
+returns-in-Err c = denied-decision c.authorize-authorized.ensures (identifier c.args.variable.now) c.in-Err.is
+
+pub returns-in-Ok : goal.returns-in-Ok
+returns-in-Ok c = c.decide_in.ensures ∙ viewed-decision c.authorize-authorized.ensures (identifier c.args.variable.now) c.in-Ok.is

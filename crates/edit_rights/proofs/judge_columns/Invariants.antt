@@ -4,7 +4,7 @@ use mathlib.Core.Path.{◌≡◌}
 use mathlib.Core.List.{List}
 use Prim.Native.Nat.{ℕ, ◌-◌}
 use lib.ListN.{length, set}
-use Rattle.answers.specs.Types.{Decision}
+use Rattle.answers.specs.declared.Decision.{Decision}
 use Rattle.decision_steps.specs.Decision.{step5}
 use Rattle.decision_parts.specs.declared.NamedView.{NamedView}
 use Rattle.decision_parts.specs.Parts.{rows_of}

@@ -8,13 +8,13 @@ use Rattle.image_transfer.proofs.write_rows.Goals as goal
 
 -- the next row lies within the store and within the buffer
 
-pub slice_bounds-copy_from_slice-end : goal.slice_bounds-copy_from_slice-end
-slice_bounds-copy_from_slice-end c =
+pub slice_bounds-write_row-end : goal.slice_bounds-write_row-end
+slice_bounds-write_row-end c =
     let v = c.loop-i.invariant in
     omega (arith, room-row v.0 c.loop-i-test.true c.pair_at.ensures.number c.requires, v.2)
 
-pub slice_bounds-copy_from_slice-end-in-loop-i : goal.slice_bounds-copy_from_slice-end-in-loop-i
-slice_bounds-copy_from_slice-end-in-loop-i c = walk-row c.loop-i.invariant.0 _ c.loop-i-test.true c.pair_at.ensures.number c.requires.inside
+pub slice_bounds-write_row-end-in-loop-i : goal.slice_bounds-write_row-end-in-loop-i
+slice_bounds-write_row-end-in-loop-i c = walk-row c.loop-i.invariant.0 _ c.loop-i-test.true c.pair_at.ensures.number c.requires.inside
 
 pub loop-i-preserved : goal.loop-i-preserved
 loop-i-preserved c =
@@ -24,7 +24,7 @@ loop-i-preserved c =
     let a = c.args in
     let e = walk-row v.0 _ h l c.requires.inside in
     let r = room-row v.0 h l c.requires in
-    let o = overlaid-part a.store.now a.out.now c.loop-i.o c.pair_at.result e r v.1 c.copy_from_slice.ensures.after in
+    let o = overlaid-part a.store.now a.out.now c.loop-i.o c.pair_at.result e r v.1 c.write_row.ensures in
     (in_place (walk-next v.0 _ h l), o, ap length o ∙ length_part a.store.now a.out.now c.loop-i.o c.pair_at.result e r)
 
 pub returns : goal.returns

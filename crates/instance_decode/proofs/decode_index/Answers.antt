@@ -1,6 +1,7 @@
 -- `instance_decode::decode_index` meets its contract: each return is a case of `Answers`. The key was made within a buffer no longer than its own
 -- room, so it fits. Assumes nothing.
 use mathlib.Core.Path.{sym}
+use native.Mathlib.Omega.{arith}
 use lib.Seq.{length-take-le}
 use Rattle.rows.specs.Rows.{key_fields}
 use Rattle.rows.specs.Fields.{row_bytes}
@@ -18,12 +19,12 @@ returns-in_err-at c =
     rw m.1 (index-unread s.table s.column s.index.now s.key.now
     (untaken (row_bytes (key_fields s.table)) s.index.now 0 (parse_fields (key_fields s.table) s.index.now) f.ensures.reads m.0))
 
-pub returns-then-at-index : goal.returns-then-at-index
-returns-then-at-index c =
+pub returns-then-left_at-gt0 : goal.returns-then-left_at-gt0
+returns-then-left_at-gt0 c =
     let s = c.args in
     let f = c.read_fields in
     let k = taken s.table s.index.now s.made.now f.new.key f.ensures.reads f.ensures.lays (present f.result c.ok_or.ensures.value c.in_ok-at.was) in
-    index-over s.table s.column s.index.now s.key.now k c.if-at-index.true
+    index-over s.table s.column s.index.now s.key.now k (omega (arith, c.if-left_at-gt0.true, c.left_at.ensures))
 
 pub slice_bounds-copy_in-end : goal.slice_bounds-copy_in-end
 slice_bounds-copy_in-end c =
@@ -44,4 +45,4 @@ returns c =
     let s = c.args in
     let f = c.read_fields in
     let k = taken s.table s.index.now s.made.now f.new.key f.ensures.reads f.ensures.lays (present f.result c.ok_or.ensures.value c.in_ok-at.was) in
-    index-whole s.table s.column s.index.now s.key.now k c.if-at-index.false _ c.copy_in.ensures
+    index-whole s.table s.column s.index.now s.key.now k (omega (arith, c.if-left_at-gt0.false, c.left_at.ensures)) _ c.copy_in.ensures

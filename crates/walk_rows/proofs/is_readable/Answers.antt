@@ -1,9 +1,7 @@
 -- `walk_rows::is_readable` meets its contract: a listed column of a legal key is always encoded, and what is decided in the view is its instance.
 -- Assumes nothing.
-use mathlib.Core.Path.{◌≡◌, refl, sym, ap, ◌∙◌}
+use mathlib.Core.Path.{◌≡◌, refl, ap, ◌∙◌}
 use Rattle.instance_encode.proofs.Encoded.{encoded-always, encoded-room, encoded-few, encoded-parts}
-use Rattle.std.specs.Prelude.{Ok, Err, is_ok}
-use Rattle.answers.specs.Types.{Decision}
 use Rattle.rows.specs.Rows.{index_of}
 use Rattle.decision_steps.specs.Decision.{step5}
 use Rattle.decision_parts.specs.Parts.{rows_of}
@@ -23,12 +21,8 @@ decide_variable_in-requires c = record { view = c.requires.view; parts = encoded
 
 -- what is decided is the instance
 
-ok-allowed : (d : Decision) → is_ok d ≡ is_allowed d
-ok-allowed (Ok tt) = refl
-ok-allowed (Err cause) = refl
-
 pub returns : goal.returns
 unfolding readable
 returns c =
     let decided : let s = c.args in is_allowed c.decide_variable_in.result ≡ readable (rows_of s.w.now s.v) (instance s.t s.column (index_of s.t s.key.now)) = ap is_allowed (c.decide_variable_in.ensures ∙ ap (λ v. step5 v (rows_of c.args.w.now c.args.v)) (encoded-parts c.args.t _ c.args.key.now c.requires.listed c.requires.whole c.encode-written.ensures refl c.in-Ok.is)) in
-    c.is_ok.ensures.value ∙ ok-allowed c.decide_variable_in.result ∙ decided
+    c.is_allowed.ensures ∙ decided
