@@ -59,12 +59,19 @@ module _ (w : List ℕ) (q : Request) where
   pub decides : {r : Answer} → r ≡ answer (held w) q → Decides q w r
   decides e = record { answer_is = e; number_is = ap answer_number e }
 
+  -- a store that is not sound is 6, and so is the fault that was found of it
+  pub answer-unheld : {f : Fault} → Err f ≡ surveyed (store_fault w) (layout_of w) → Decides q w (Err NotSound)
+  answer-unheld e = decides (sym (rw (store-unheld w e)))
+
   pub answer-unsound : {f : Fault} → Err f ≡ surveyed (store_fault w) (layout_of w) → Decides q w (Err f)
   unfolding store_fault
   answer-unsound {f} e =
       let n : some f ≡ some NotSound = sym (bad-some (store_fault w) (layout_of w) e) ∙ rw (store-bad w e) in
       let k : f ≡ NotSound = cc in
-      decides (ap Err k ∙ sym (rw (store-unheld w e)))
+      rw k (answer-unheld e)
 
   pub answer-laid : {r : Answer} {l : Layout} → r ≡ answer_on (tables_at w l) q → Ok l ≡ surveyed (store_fault w) (layout_of w) → Decides q w r
   answer-laid a e = decides (a ∙ sym (rw (store-held w e)))
+
+-- by these the refusal of a store is found, in whatever form the code tells it
+pub ruleset unsound = (answer-unheld, answer-unsound)

@@ -193,6 +193,7 @@ pub fn answer_request(
 }
 
 // RFC 3415's isAccessAllowed: may the principal read, write or be notified of the variable?
+#[tactic(auto, using(crate::proofs::Answers::unsound))]
 pub fn is_access_allowed(
     store: &[u8],
     security_model: u32,

@@ -265,14 +265,14 @@ module _ {t : Table} {w : List ℕ} {x : Extent} {p : Place} {end : ℕ} (b : Oc
       }
 
   -- as the code does it, with one row or none
-  module _ (row : List ℕ) {u head : List ℕ} {has had at : ℕ} (g : head ≡ length row / 256 % 256 ∷ length row % 256 ∷ []) (r : length row ≤ most_pair)
+  module _ (row : List ℕ) {u head : List ℕ} {said has had at : ℕ} (g : head ≡ said / 256 % 256 ∷ said % 256 ∷ []) (s : said ≡ length row) (r : length row ≤ most_pair)
       (a : u ≡ spliced_two w (x.lengths + 2 * p.row) (2 * had) (take (2 * has) head) p.from (p.end - p.from) end row) where
     pub exchanges-row : had ≡ one_if p.present → has ≡ one_if (ltb 0 (length row)) → at ≡ count_at t → length u ≡ length w
         → Exchanges t p.row (one_if p.present) (one_row row) w (set u at (x.count + has - had))
     exchanges-row d e f l =
         let n : length (one_row row) ≡ has = count-one row ∙ sym e in
         let b : length row / 256 % 256 ≡ length row / 256 = omega arith in
-        let h : take (2 * has) head ≡ heads (one_row row) = ap (λ k. take (2 * has) k) g ∙ rw (b, e) (sym (heads-one row)) in
+        let h : take (2 * has) head ≡ heads (one_row row) = ap (λ k. take (2 * has) k) g ∙ rw (s, b, e) (sym (heads-one row)) in
         let k : u ≡ spliced_two w (x.lengths + 2 * p.row) (2 * one_if p.present) (heads (one_row row)) p.from (p.end - p.from) end row = rw
         (h, d) at a in
         exchanges (one_row row) (x.count + has - had) (omega (arith, count-one row, one-if-most (ltb 0 (length row)))) (omega (arith, q.place_in.row_in))

@@ -117,7 +117,7 @@ module _ {t : Table} {w : List ℕ} {x : Extent} {p : Place} {end : ℕ} (b : Oc
   after-exchanges =
       let n = length row in
       let e : n / 256 ≡ n / 256 % 256 = omega (arith, r.length_said) in
-      exchanges-row b q row (ap (λ k. k ∷ n % 256 ∷ []) e) r.length_said refl refl refl refl moved_length
+      exchanges-row b q row (ap (λ k. k ∷ n % 256 ∷ []) e) refl r.length_said refl refl refl refl moved_length
 
   pub after-octets : Octets after
   after-octets =

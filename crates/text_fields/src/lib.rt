@@ -64,7 +64,8 @@ fn small(word: &[u8], out: &mut [u8], from: usize) -> Option<usize>
     requires { from + word_bytes word.now ≤ length out.old }
     ensures { Fills result from (word_bytes word.now) out.old out.new (numbered octet (decimal word.now)) }
 {
-    let x = u8::try_from(text_words::decimal(word)?).ok()?;
+    let n = text_words::decimal(word)?;
+    let x = u8::try_from(n).ok()?;
     out[from] = x;
     Some(from + 1)
 }

@@ -1,8 +1,9 @@
 use mathlib.Core.Path.{◌≡◌, sym, ap, ◌∙◌}
-use Prim.Native.Nat.{ℕ, ◌+◌, ◌-◌, ◌<◌}
+use Prim.Native.Nat.{ℕ, ◌+◌, ◌-◌, ◌≤◌, ◌<◌}
 use native.Mathlib.Omega.{arith}
 use lib.ListN.{length-set}
 use lib.Seq.{set-set}
+use Rattle.std.proofs.Common.{rules}
 use Rattle.answers.specs.declared.Cause.{Cause}
 use Rattle.answers.specs.declared.Decision.{Decision}
 use Rattle.answers.specs.declared.Decision.TheVariants.{Allowed, Refused}
@@ -20,6 +21,16 @@ first-is : (judged_here : ℕ → Decision) (column end : ℕ) {r all : Decision
 first-is judged_here column end h e all =
     let left : end - (column + 1) ≡ end - column - 1 = omega arith in
     rw (left, e) (sym (ap (first_refusal judged_here) (counted_next column (end - column) (omega arith))) ∙ all)
+
+-- behind the last column none is judged, and up to the end that the code found those are that are asked for
+none-left : (judged_here : ℕ → Decision) (column : ℕ) {end : ℕ} → end ≤ column → Allowed ≡ first_refusal judged_here (counted column (end - column))
+none-left judged_here column {end} h = let z : 0 ≡ end - column = omega arith in ap (λ k. first_refusal judged_here (counted column k)) z
+
+all-asked : (judged_here : ℕ → Decision) (first count : ℕ) {end : ℕ} → end ≡ first + count
+    → first_refusal judged_here (counted first (end - first)) ≡ first_refusal judged_here (counted first count)
+all-asked judged_here first count {end} h =
+    let n : end - first ≡ count = omega arith in
+    ap (λ k. first_refusal judged_here (counted first k)) n
 
 allowed : {r : Decision} (next : Decision) → r ≡ Allowed → next ≡ if_allowed r next
 allowed next e = rw e
@@ -42,17 +53,15 @@ pub returns-in_default : goal.returns-in_default
 returns-in_default c =
     let l = c.loop-column in
     let a = c.args in
-    let all : ℕ → Decision = λ k. first_refusal (judged_by a.w.now a.v a.variable.now a.at) (counted a.columns.first k) in
-    let n : a.columns.first + a.columns.count - a.columns.first ≡ a.columns.count = omega arith in
+    let judged : ℕ → Decision = judged_by a.w.now a.v a.variable.now a.at in
     let e = c.decide_variable_in-judged.ensures ∙ ap (λ u. step5 u (rows_of a.w.now a.v)) (l.invariant.own l.column) in
     refused _ c.in_default.is
-    ∙ first-is (judged_by a.w.now a.v a.variable.now a.at) l.column _ c.loop-column-test.true e (l.invariant.first ∙ ap all n)
+    ∙ first-is judged l.column _ c.loop-column-test.true e (l.invariant.first ∙ all-asked judged a.columns.first a.columns.count (search (rules, arith)))
 
 pub returns : goal.returns
 returns c =
     let l = c.loop-column in
     let a = c.args in
-    let from : ℕ → ℕ → Decision = λ x k. first_refusal (judged_by a.w.now a.v a.variable.now a.at) (counted x k) in
-    let n : a.columns.first + a.columns.count - a.columns.first ≡ a.columns.count = omega arith in
-    let z : 0 ≡ a.columns.first + a.columns.count - l.column = omega (arith, c.loop-column-test.false) in
-    ap (from l.column) z ∙ l.invariant.first ∙ ap (from a.columns.first) n
+    let judged : ℕ → Decision = judged_by a.w.now a.v a.variable.now a.at in
+    none-left judged l.column (omega (arith, c.loop-column-test.false))
+    ∙ l.invariant.first ∙ all-asked judged a.columns.first a.columns.count (search (rules, arith))

@@ -36,5 +36,5 @@ overflow_cast-w c =
     omega (arith, held-most c.args.p.present c.from-had.ensures, held-most (ltb 0 (length c.args.row.now)) c.from-has.ensures)
 
 pub returns : goal.returns
-returns c = exchanges-row (λ i. search rules) c.requires.place c.args.row.now c.to_be_bytes-head.ensures c.requires.room.length_said c.splice_two.ensures
+returns c = exchanges-row (λ i. search rules) c.requires.place c.args.row.now c.to_be_bytes-head.ensures (omega arith) c.requires.room.length_said c.splice_two.ensures
     (held-one c.args.p.present c.from-had.ensures) (held-one (ltb 0 (length c.args.row.now)) c.from-has.ensures) (ap (λ n. 2 * n + 1) c.position_of.ensures) c.splice_two.auto.w

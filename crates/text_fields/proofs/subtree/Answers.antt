@@ -39,14 +39,15 @@ returns c =
     let f = read in
     let n = c.in_ok-n.n in
     let fits = ok-some _ c.try_from.ensures c.in_ok-count.ensures.value in
+    let held : c.in_ok-count.count ≡ n = omega (arith, fits.1) in
     let x = take n c.dotted.new.out in
     let q : w.new.out ≡ bytes_of quad x = rw (sub-zero n) at w.ensures in
     let z : length w.new.out ≡ at + 1 + 4 * n - (at + 1) = ap length q ∙ length-bytes_of quad x ∙ omega (arith, f.size) in
     record {
       of = length x ∷ bytes_of quad x;
-      is = counted-some quad f.is (omega (arith, f.size, fits.0));
+      is = counted-some quad f.is (omega (arith, f.size, fits.0, fits.1));
       lays =
-          rw fits.1
+          rw held
           (ap (λ u. set u at n) (laid-part (at + 1) (at + 1 + 4 * n - (at + 1)) w.new.out out z ∙ ap (λ u. laid (at + 1) u out) q)
           ∙ ap (set (laid (at + 1) (bytes_of quad x) out) at) (sym f.size)
           ∙ laid-front at (length x) (bytes_of quad x) out (omega (arith, c.requires.room)));

@@ -1,4 +1,4 @@
-use Rattle.std.proofs.Common.{refl, ap, ◌∙◌, arith, length}
+use Rattle.std.proofs.Common.{◌≡◌, refl, ap, ◌∙◌, arith, length, drop, rules, take_all}
 use Rattle.std.specs.Slice.Iter.{chunks_exact_rest}
 use Rattle.decision_steps.specs.Bytes.{identifier}
 use Rattle.decision_steps.proofs.Identifiers.{identifier-none}
@@ -26,7 +26,8 @@ loop-quad-init c =
     let k = c.in-Some.ensures in
     let q = c.chunks_exact-quad-items.ensures in
     let g = c.into_iter-quad-iterator.ensures.into_iter_gives in
-    rw (g, q.rest, k.cases.1)
+    let all : chunks_exact_rest c.chunks_exact-quad-items.result ≡ drop 4 c.args.bytes.now = search (rules, take_all) in
+    rw (g, all)
     (q.size, start (rest-room c.args.at c.args.out.now (quad-first c.args.bytes.now _ k.cases.0 (k.variant.0 refl)) c.requires c.quad_at.ensures.value c.put_decimal-o.ensures))
 
 -- in a turn the four bytes that were cut are the next
