@@ -94,8 +94,7 @@ pub fn match_view(
 ) -> Result<Option<(usize, u8)>, Fault>
     ensures { MatchesView store.now view_name.now variable_name.now key.old key.new result }
 {
-    let legal = is_legal_view(view_name.len(), variable_name.len());
-    let l = image::survey_call(store, legal)?;
+    let l = image::survey_call(store, is_legal_view(view_name.len(), variable_name.len()))?;
     view_row(store, l.views, view_name, variable_name, key)
 }
 

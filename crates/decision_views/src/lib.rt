@@ -40,7 +40,8 @@ fn is_below(subtree: &[u8], mask: &[u8], variable: &[u8]) -> bool
             }
         }
     }
-    for i in octets::skip(subtree, variable, 0, n) / 4..n / 4 {
+    let first = octets::skip(subtree, variable, 0, n) / 4;
+    for i in first..n / 4 {
         let k = 4 * i;
         if !octets::same_four(subtree, variable, k) {
             if mask_bit(mask, i) {

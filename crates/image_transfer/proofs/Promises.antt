@@ -18,9 +18,10 @@ use Rattle.image_layout.specs.declared.Layout.{Layout}
 use Rattle.image_layout.specs.Layout.{Inside, end_of, layout_of, laid_out, image_end, most_rows}
 use Rattle.image_layout.proofs.Walks.{piece}
 use Rattle.image.specs.Image.{image_fault}
+use Rattle.image_judge.specs.Types.{Surveyed}
 use Rattle.image_judge.specs.Faults.{tables_in, surveyed}
 use Rattle.image.specs.Store.{room, is_sound, store_fault, held}
-use Rattle.image.proofs.Surveys.{store-bad, store-only}
+use Rattle.image.proofs.Surveys.{store-bad, store-only, store_laid, laid_none, bad-some}
 use Rattle.table_update.proofs.Stores.{sound-few, store-sound}
 use Rattle.image_transfer.specs.Transfer.{image_of, overlaid, all_rows, Reads, Writes}
 use Rattle.image_transfer.proofs.Accepted.{image-accepted, image_room}
@@ -33,6 +34,13 @@ use Rattle.image_transfer.proofs.Parts.{length-overlaid, paste-front, overlaid-c
 pub reads-refused : (image found : List ℕ) (f : Fault) → image_fault image ≡ some f → Reads image found found (Err f)
 reads-refused image found f e = record { answer_is = rw e; number_is = rw e; store_is = rw e; rows_are = λ d. cc }
 
+pub reads-unlaid : (image found : List ℕ) (l : Layout) {f : Fault} → Err f ≡ surveyed (image_fault image) l → Reads image found found (Err f)
+reads-unlaid image found l e = reads-refused image found _ (bad-some _ l e)
+
+-- an image that was laid out has no fault
+pub laid-whole : (image : List ℕ) (m : Layout) {r : Surveyed} {l : Layout} → r ≡ surveyed (image_fault image) m → r ≡ Ok l → image_fault image ≡ none
+laid-whole image m e k = (laid_none _ _ (sym k ∙ e)).0
+
 pub reads-done : (image found : List ℕ) {after : List ℕ} → Octets image → length found ≡ room → image_fault image ≡ none
     → after ≡ paste found 0 image (length image) → Reads image found after (Ok tt)
 reads-done image found {after} b s e p =
@@ -40,6 +48,9 @@ reads-done image found {after} b s e p =
     let l : length after ≡ room = ap length q ∙ length-overlaid image found (omega (arith, image_room image e)) ∙ s in
     let h = held-front image b (image-accepted image e) after (drop (length image) found) q l in
     record { answer_is = rw e; number_is = rw e; store_is = rw e q; rows_are = λ d. h }
+
+-- by this the refusal of an image is found, in whatever form the code tells it
+pub ruleset unread = (reads-unlaid)
 
 -- ---- writing
 
@@ -61,6 +72,17 @@ module _ (w : List ℕ) (h : is_sound w ≡ true) {l : Layout} (q : l ≡ layout
 
   pub all_laid : {x : Extent} → x ≡ all_rows l → AllIn w x
   all_laid e = rw (e ∙ ap all_rows q) (all_in w h)
+
+-- a store that was laid out is sound, and lies as its counts and lengths say
+module _ (w : List ℕ) {r : Surveyed} {l : Layout} (e : r ≡ surveyed (store_fault w) (layout_of w)) (k : r ≡ Ok l) where
+  pub laid-sound : is_sound w ≡ true
+  laid-sound = (store_laid w (sym k ∙ e)).0
+
+  pub laid-is : l ≡ layout_of w
+  laid-is = (store_laid w (sym k ∙ e)).1
+
+  pub laid-few : l.contexts.count + l.mappings.count + l.accesses.count + l.views.count ≤ most_rows
+  laid-few = few-laid w laid-sound laid-is
 
 module _ (w found : List ℕ) where
   pub writes-unsound : {f : Fault} → Err f ≡ surveyed (store_fault w) (layout_of w) → Writes (held w) found found (Err f)

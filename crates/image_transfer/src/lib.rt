@@ -22,6 +22,7 @@ pub fn loaded_number(l: Result<(), Fault>) -> u32
 
 // An image read into a store. It is judged whole before a byte is copied, so that a refusal leaves the store as found.
 // The type gives the store its size: there is no 6.
+#[tactic(auto, using(crate::proofs::Promises::unread))]
 pub fn read_image(image: &[u8], store: &mut [u8; ROOM]) -> Result<(), Fault>
     ensures { Reads image.now store.old store.new result }
 {
